@@ -1,0 +1,9 @@
+pub mod Tables
+pub mod Rows
+pub mod RowLaws
+pub mod RowSearch
+pub mod StrappedTables
+pub mod UprightTables
+pub mod Layers
+pub mod SurveyedTables
+pub mod Surveys

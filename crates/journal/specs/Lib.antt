@@ -1,0 +1,5 @@
+pub mod Words
+pub mod Entries
+pub mod Places
+pub mod Journals
+pub mod Sections

@@ -1,0 +1,27 @@
+use mathlib.Core.Path.{_≡_, refl, sym, ap, _∙_}
+use mathlib.Core.Bool.{cond}
+use Prim.Native.Nat.{ℕ}
+use lib.Dec.{eqb}
+use Rattle.measure.specs.Refusals.{number-of}
+use Rattle.measure.specs.declared.refusal.Cause.{Cause}
+use Rattle.measure.specs.declared.refusal.Cause.the-variants.{RowCount, FirstHeight, RowHeight, RowLitres, HeightNotCovered, UprightLimit}
+use Rattle.measure.proofs.refusal.causes_have_their_own_numbers.Needs as need
+
+abbrev cause-of : ℕ → Cause
+cause-of n =
+    cond (eqb n 20) RowCount
+    (cond (eqb n 21) FirstHeight
+    (cond (eqb n 22) RowHeight
+    (cond (eqb n 23) RowLitres
+    (cond (eqb n 24) HeightNotCovered UprightLimit))))
+
+back : (cause : Cause) → cause-of (number-of cause) ≡ cause
+back RowCount = refl
+back FirstHeight = refl
+back RowHeight = refl
+back RowLitres = refl
+back HeightNotCovered = refl
+back UprightLimit = refl
+
+pub returns : need.returns
+returns c = λ a b e. sym (back a) ∙ ap cause-of e ∙ back b
