@@ -1,3 +1,5 @@
 pub mod Answered
 pub mod Tenths
 pub mod RowPlaces
+pub mod Lines
+pub mod Examined

@@ -23,7 +23,7 @@ rises-above j low [] i clear inside = absurd (not-suc-le-zero inside)
 rises-above j low (next ∷ rows) zero clear inside = next-rises j low next rows clear .0
 rises-above j low (next ∷ rows) (suc i) clear inside = rises-above (j + 1) next rows i (next-rises j low next rows clear .1) (omega arith)
 
-climb-above : (j : ℕ) (low : Row) (rows : List Row) (i k : ℕ) → Clear j low rows → i ≤ k → k < length (low ∷ rows) → row-at (low ∷ rows) i .height ≤ row-at (low ∷ rows) k .height
+pub climb-above : (j : ℕ) (low : Row) (rows : List Row) (i k : ℕ) → Clear j low rows → i ≤ k → k < length (low ∷ rows) → row-at (low ∷ rows) i .height ≤ row-at (low ∷ rows) k .height
 climb-above j low rows zero zero clear le inside = omega arith
 climb-above j low rows (suc i) zero clear le inside = absurd (not-suc-le-zero le)
 climb-above j low [] i (suc k) clear le inside = absurd (omega arith)

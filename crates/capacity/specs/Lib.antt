@@ -7,3 +7,5 @@ pub mod UprightTables
 pub mod Layers
 pub mod SurveyedTables
 pub mod Surveys
+pub mod AnswerLaws
+pub mod SurveyLaws

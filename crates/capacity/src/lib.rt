@@ -1,6 +1,7 @@
 //! Capacity tables: what a tank holds at each height, from a survey.
 pub mod draft;
 pub mod fill_limit;
+pub mod laws;
 pub mod raised_datum;
 pub mod row;
 pub mod strapped;

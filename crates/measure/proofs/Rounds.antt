@@ -6,11 +6,11 @@ use native.Mathlib.Omega.{arith}
 use lib.Dec.{lit<}
 use lib.IntN.{ℤ, pos, negsuc, negℤ, natAbs, negℤ-negℤ, _*ℤ_}
 use lib.Signed.{_≤ℤ_, _<ℤ_}
-use borrow.Author.Differences.{ints}
-use Rattle.measure.specs.Fractions.{quotient, whole, negated, one-half, _⊑_, Within}
-use Rattle.measure.specs.FractionLaws.{≃-within, whole-negated, within-negated}
-use Rattle.measure.specs.Rounding.{nearest, rounded}
-use Rattle.measure.specs.RoundingLaws.{RoundingLaws}
+use borrow.Author.Differences.{ints, up, down, sum-is, neg-is}
+use Rattle.measure.specs.Fractions.{Fraction, quotient, whole, numerator, negated, one-half, _⊑_, _≃_, Within}
+use Rattle.measure.specs.FractionLaws.{⊑-≃, ≃-⊑, ≃-sym, ≃-within, within-≃, whole-negated, within-negated}
+use Rattle.measure.specs.Rounding.{nearest, rounded, rounded-fraction}
+use Rattle.measure.specs.RoundingLaws.{RoundingLaws, FractionRounding}
 use Rattle.measure.proofs.Nearest.{nearest-is, nearest-low, nearest-high, nearest-most}
 
 near-size : (n d : ℕ) (h : 0 < d) → Within one-half (whole (pos (nearest n d))) (quotient (pos n) d h)
@@ -60,6 +60,25 @@ rounding-laws = record {
   exact = exact;
   mirrored = mirrored;
   half-away = λ q d h. ap pos (nearest-is ((2 * q + 1) * d) (2 * d) (q + 1) (omega arith) (omega arith) (omega arith));
+}
+
+-- ---- fractions
+
+-- a fraction is the quotient of its numerator
+same-quotient : (x : Fraction) → quotient (numerator x) (x .den) (x .some) ≃ x
+same-quotient x =
+    let sum = sum-is (pos (x .up)) (negℤ (pos (x .down))) in
+    let sign = neg-is (pos (x .down)) in
+    let parts : up (numerator x) + x .down ≡ x .up + down (numerator x) = omega arith in
+    omega (arith, ap (λ (n : ℕ). n * x .den) parts)
+
+pub fraction-rounding : FractionRounding
+fraction-rounding = record {
+  near = λ x. within-≃ one-half (whole (rounded-fraction x)) (quotient (numerator x) (x .den) (x .some)) x (near (numerator x) (x .den) (x .some)) (same-quotient x);
+  monotone = λ x y le. monotone (numerator x) (numerator y) (x .den) (y .den) (x .some) (y .some)
+    (≃-⊑ (quotient (numerator x) (x .den) (x .some)) x (quotient (numerator y) (y .den) (y .some)) (same-quotient x)
+    (⊑-≃ x y (quotient (numerator y) (y .den) (y .some)) le (≃-sym (quotient (numerator y) (y .den) (y .some)) y (same-quotient y))));
+  exact = λ a. let once : numerator (whole a) ≡ a *ℤ pos 1 = omega (arith, ints) in ap (λ (b : ℤ). rounded b 1) once ∙ exact a 1 (lit< tt);
 }
 
 -- ---- rounding by sizes, as the code goes

@@ -3,7 +3,7 @@ ghost use mathlib.Core.Path.{_≡_};
 ghost use Prim.Native.Nat.{_<_};
 ghost use lib.IntN.{pos};
 ghost use Rattle.measure.specs.Rounding.{rounded};
-ghost use Rattle.measure.specs.RoundingLaws.{RoundingLaws};
+ghost use Rattle.measure.specs.RoundingLaws.{RoundingLaws, FractionRounding};
 
 /// `n / d`, rounded.
 pub fn rounded_quotient(n: u64, d: u64) -> u64
@@ -37,7 +37,8 @@ pub fn rounded_signed_quotient(a: i64, d: u64) -> i64
 /// The rounding keeps its laws: it is at most a half away, it keeps the order, it is exact where the divisor
 /// divides, it treats both signs alike, and a half goes away from zero.
 pub fn rounding_keeps_its_laws() -> u8
-    ensures { λ _. ⌜ RoundingLaws ⌝ }
+    ensures quotients { λ _. ⌜ RoundingLaws ⌝ }
+    ensures fractions { λ _. ⌜ FractionRounding ⌝ }
 {
     0
 }
