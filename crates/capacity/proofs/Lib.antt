@@ -1,5 +1,3 @@
 pub mod Answered
 pub mod Tenths
 pub mod RowPlaces
-pub mod Lines
-pub mod Examined

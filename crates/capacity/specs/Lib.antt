@@ -1,3 +1,4 @@
+pub mod Limits
 pub mod Tables
 pub mod Rows
 pub mod RowLaws
@@ -5,7 +6,3 @@ pub mod RowSearch
 pub mod StrappedTables
 pub mod UprightTables
 pub mod Layers
-pub mod SurveyedTables
-pub mod Surveys
-pub mod AnswerLaws
-pub mod SurveyLaws

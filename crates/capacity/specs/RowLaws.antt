@@ -39,14 +39,15 @@ next-rises i low next rows h =
     let height = passed _ _ _ h in
     let litres = passed _ _ _ (height .1) in
     let heights = or-parts _ _ (height .0) in
-    let volumes = or-parts _ _ (litres .0) in
-    (record {
-      height-rises = leb-false _ _ (heights .0);
-      height-within = ltb-false _ _ (heights .1);
-      litres-rise = ltb-false _ _ (volumes .0);
-      litres-within = ltb-false _ _ (volumes .1);
-    },
-    litres .1)
+    let volumes = or-parts _ _ (litres .0) in (
+      record {
+        height-rises = leb-false _ _ (heights .0);
+        height-within = ltb-false _ _ (heights .1);
+        litres-rise = ltb-false _ _ (volumes .0);
+        litres-within = ltb-false _ _ (volumes .1);
+      },
+      litres .1,
+    )
 
 pub record FirstSound (first : Row) (rows : List Row) : Type 0 where
   pub at-zero : first .height ≡ 0
@@ -117,8 +118,8 @@ volume-least i low (next ∷ rows) h clear =
     cond-both (leb h (next .height)) (line low next h) (volume-above next rows h) (λ v. natural (low .litres) ⊑ v)
     (λ _. line-least low next h (rest .0))
     (λ _. ⊑-trans (natural (low .litres)) (natural (next .litres)) (volume-above next rows h)
-      (litres-rise (low .litres) (next .litres) (rest .0 .litres-rise))
-      (volume-least (i + 1) next rows h (rest .1)))
+    (litres-rise (low .litres) (next .litres) (rest .0 .litres-rise))
+    (volume-least (i + 1) next rows h (rest .1)))
 
 pub volume-most : (i : ℕ) (low : Row) (rows : List Row) (h : ℕ) → low .litres ≤ largest-litres → Clear i low rows → volume-above low rows h ⊑ natural largest-litres
 volume-most i low [] h within clear = litres-rise (low .litres) largest-litres within
@@ -126,8 +127,8 @@ volume-most i low (next ∷ rows) h within clear =
     let rest = next-rises i low next rows clear in
     cond-both (leb h (next .height)) (line low next h) (volume-above next rows h) (λ v. v ⊑ natural largest-litres)
     (λ below. ⊑-trans (line low next h) (natural (next .litres)) (natural largest-litres)
-      (line-most low next h (rest .0) (leb-true h (next .height) below))
-      (litres-rise (next .litres) largest-litres (rest .0 .litres-within)))
+    (line-most low next h (rest .0) (leb-true h (next .height) below))
+    (litres-rise (next .litres) largest-litres (rest .0 .litres-within)))
     (λ _. volume-most (i + 1) next rows h (rest .0 .litres-within) (rest .1))
 
 pub volume-rises : (i : ℕ) (low : Row) (rows : List Row) (g h : ℕ) → g ≤ h → Clear i low rows → volume-above low rows g ⊑ volume-above low rows h
@@ -138,15 +139,15 @@ volume-rises i low (next ∷ rows) g h le clear =
     let higher = volume-above next rows h in
     cond-both (leb g (next .height)) (line low next g) lower (λ v. v ⊑ cond (leb h (next .height)) (line low next h) higher)
     (λ below. cond-both (leb h (next .height)) (line low next h) higher (λ v. line low next g ⊑ v)
-      (λ _. line-rises low next g h (rest .0) le)
-      (λ _. ⊑-trans (line low next g) (natural (next .litres)) higher
-        (line-most low next g (rest .0) (leb-true g (next .height) below))
-        (volume-least (i + 1) next rows h (rest .1))))
+    (λ _. line-rises low next g h (rest .0) le)
+    (λ _. ⊑-trans (line low next g) (natural (next .litres)) higher
+    (line-most low next g (rest .0) (leb-true g (next .height) below))
+    (volume-least (i + 1) next rows h (rest .1))))
     (λ above. cond-both (leb h (next .height)) (line low next h) higher (λ v. lower ⊑ v)
-      (λ below. let p = leb-false g (next .height) above in
-        let q = leb-true h (next .height) below in
-        absurd (omega arith))
-      (λ _. volume-rises (i + 1) next rows g h le (rest .1)))
+    (λ below. let p = leb-false g (next .height) above in
+    let q = leb-true h (next .height) below in
+    absurd (omega arith))
+    (λ _. volume-rises (i + 1) next rows g h le (rest .1)))
 
 pub reach-most : (i : ℕ) (low : Row) (rows : List Row) → low .height ≤ highest-level → Clear i low rows → rows-reach (low ∷ rows) ≤ largest-reach
 reach-most i low [] within clear = omega arith

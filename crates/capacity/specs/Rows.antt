@@ -13,12 +13,7 @@ use Rattle.measure.specs.Refusals.{refusal}
 use Rattle.measure.specs.Limits.{highest-level, largest-litres}
 use Rattle.measure.specs.Fractions.{Fraction, natural, none, per, _⊕_}
 use Rattle.capacity.specs.declared.row.Row.{Row}
-
-abbrev pub fewest-rows : ℕ
-fewest-rows = 2
-
-abbrev pub most-rows : ℕ
-most-rows = 256
+use Rattle.capacity.specs.Limits.{fewest-rows, most-rows}
 
 -- ---- examination
 

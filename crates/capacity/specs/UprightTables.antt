@@ -11,13 +11,10 @@ use Rattle.measure.specs.declared.refusal.Refusal.{Refusal}
 use Rattle.measure.specs.declared.refusal.Cause.the-variants.{UprightLimit}
 use Rattle.measure.specs.Refusals.{refusal}
 use Rattle.measure.specs.Limits.{highest-level, largest-litres}
+use Rattle.capacity.specs.Limits.{most-litres-per-metre}
 use Rattle.measure.specs.Fractions.{Fraction, over, none, natural, _⊑_}
 use Rattle.capacity.specs.declared.upright.Upright.{Upright}
 use Rattle.capacity.specs.Tables.{TableMeaning, TableLaws}
-
--- litres to the metre
-abbrev pub most-litres-per-metre : ℕ
-most-litres-per-metre = 5000000
 
 -- why an upright tank is not made: the height is asked before the litres
 abbrev pub upright-refusal : ℕ → ℕ → Option Refusal
@@ -40,9 +37,9 @@ upright-laws = record {
   reach-most = λ t. let limits = t .limits in omega arith;
   volume-least = λ t h covered. omega arith;
   volume-most = λ t h covered.
-    let limits = t .limits in
-    let low : h ≤ highest-level = omega arith in
-    omega (arith, mul-le-mul low (limits .1));
+      let limits = t .limits in
+      let low : h ≤ highest-level = omega arith in
+      omega (arith, mul-le-mul low (limits .1));
   never-falls = λ t g h le covered. omega (arith, mul-le-mul-right (t .«litres_per_metre») le);
 }
 

@@ -9,6 +9,7 @@ use measure::refusal::Cause;
 use measure::refusal::Refusal;
 
 const FEWEST_ROWS: usize = 2;
+
 const MOST_ROWS: usize = 256;
 
 /// Neither `Copy` nor `Drop`: a draft is sealed, once.

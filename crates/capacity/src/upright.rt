@@ -1,5 +1,6 @@
 //! A tank with upright walls, which needs no rows.
 ghost use Prim.Native.Nat.{_≤_};
+ghost use Rattle.capacity.specs.Limits.{most-litres-per-metre};
 ghost use Rattle.measure.specs.Limits.{highest-level};
 
 pub mod lookup;
@@ -9,5 +10,5 @@ pub mod lookup;
 pub struct Upright {
     height: u32,
     litres_per_metre: u32,
-    ghost limits: { (height ≤ highest-level) × («litres_per_metre» ≤ 5000000) },
+    ghost limits: { (height ≤ highest-level) × («litres_per_metre» ≤ most-litres-per-metre) },
 }

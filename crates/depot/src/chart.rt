@@ -1,21 +1,21 @@
 //! The dip chart of a journal: every survey, and an answer for each dip under it.
-use capacity::survey::Shape;
-use capacity::survey::Survey;
-use capacity::survey::SurveyedTank;
 use journal::entry::Entry;
 use journal::reader::NumberedEntry;
-use journal::section::datum_of;
-use journal::section::limit_of;
-use journal::section::rows_of;
-use journal::section::section_length;
 use measure::limits::HIGHEST_LEVEL;
 use measure::refusal::Refusal;
 use measure::refusal::RefusalDisplay;
 use measure::tenths::Tenths;
 use measure::tenths::TenthsDisplay;
+use sections::datum_of;
+use sections::limit_of;
+use sections::rows_of;
+use sections::section_length;
 use std::alloc::Global;
 use std::io;
 use std::io::Write;
+use survey::tank::Shape;
+use survey::tank::Survey;
+use survey::tank::SurveyedTank;
 
 /// How answers are written: for other programs, or for people.
 #[derive(Clone, Copy, PartialEq, Eq)]
@@ -24,7 +24,12 @@ pub enum Style {
     Plain,
 }
 
-pub(crate) fn write_charts<W: Write>(heap: Global, out: &mut W, entries: &[NumberedEntry], style: Style) -> io::Result<()> {
+pub(crate) fn write_charts<W: Write>(
+    heap: Global,
+    out: &mut W,
+    entries: &[NumberedEntry],
+    style: Style,
+) -> io::Result<()> {
     let mut rest = entries;
     while !rest.is_empty() {
         let (section, following) = rest.split_at(section_length(rest));
@@ -35,7 +40,12 @@ pub(crate) fn write_charts<W: Write>(heap: Global, out: &mut W, entries: &[Numbe
 }
 
 /// The chart of one survey and the dips under it.
-fn write_chart<W: Write>(heap: Global, out: &mut W, section: &[NumberedEntry], style: Style) -> io::Result<()> {
+fn write_chart<W: Write>(
+    heap: Global,
+    out: &mut W,
+    section: &[NumberedEntry],
+    style: Style,
+) -> io::Result<()> {
     let rows = rows_of(heap, section)?;
     let Some(first) = section.first() else {
         return Ok(());
@@ -73,18 +83,26 @@ fn write_chart<W: Write>(heap: Global, out: &mut W, section: &[NumberedEntry], s
 }
 
 /// What was surveyed, and what the table of it covers.
-fn write_heading<W: Write>(out: &mut W, date: u32, survey: &Survey, tank: &SurveyedTank) -> io::Result<()> {
+fn write_heading<W: Write>(
+    out: &mut W,
+    date: u32,
+    survey: &Survey,
+    tank: &SurveyedTank,
+) -> io::Result<()> {
     match survey.shape {
         Shape::Strapped(rows) => {
             let count = rows.len();
-            write!(out, "Survey {date}, strapped, {count} rows")?;
+            write!(out, "Survey {date}, strapped, rows: {count}")?;
         }
         Shape::Upright {
             height,
             litres_per_metre,
         } => {
             let height = Tenths(i64::from(height));
-            write!(out, "Survey {date}, upright, {height} mm high, {litres_per_metre} litres to the metre")?;
+            write!(
+                out,
+                "Survey {date}, upright, {height} mm high, {litres_per_metre} litres to the metre"
+            )?;
         }
     }
     if survey.datum > 0 {
@@ -106,7 +124,13 @@ fn write_heading<W: Write>(out: &mut W, date: u32, survey: &Survey, tank: &Surve
     }
 }
 
-fn write_dip<W: Write>(out: &mut W, line: u32, height: u32, answer: Result<u64, Refusal>, style: Style) -> io::Result<()> {
+fn write_dip<W: Write>(
+    out: &mut W,
+    line: u32,
+    height: u32,
+    answer: Result<u64, Refusal>,
+    style: Style,
+) -> io::Result<()> {
     let millimetres = Tenths(i64::from(height));
     match (style, answer) {
         (Style::Raw, Ok(tenths)) => writeln!(out, "{line} dip height={height} tenths={tenths}"),
@@ -119,8 +143,14 @@ fn write_dip<W: Write>(out: &mut W, line: u32, height: u32, answer: Result<u64, 
         (Style::Plain, Ok(tenths)) => {
             let whole = tenths / 10;
             let tenth = tenths % 10;
-            writeln!(out, "  line {line}: {millimetres} mm holds {whole}.{tenth} litres")
+            writeln!(
+                out,
+                "  line {line}: {millimetres} mm holds {whole}.{tenth} litres"
+            )
         }
-        (Style::Plain, Err(refusal)) => writeln!(out, "  line {line}: {millimetres} mm refused: {refusal}"),
+        (Style::Plain, Err(refusal)) => writeln!(
+            out,
+            "  line {line}: {millimetres} mm refused: {refusal}"
+        ),
     }
 }

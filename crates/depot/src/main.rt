@@ -22,9 +22,18 @@ struct Failed;
 fn main(rt: LibcRuntime) -> Result<(), Failed> {
     match read_arguments(&rt) {
         Ok(Request::Help) => told(&rt, println!(rt, "{HELP}")),
-        Ok(Request::UnknownOption(word)) => fail(&rt, eprintln!(rt, "depot: unknown option {word}; depot --help explains")),
+        Ok(Request::UnknownOption(word)) => fail(
+            &rt,
+            eprintln!(rt, "depot: unknown option {word}; depot --help explains"),
+        ),
         Ok(Request::SecondFile(word)) => {
-            fail(&rt, eprintln!(rt, "depot: one journal at a time, {word} is a second one; depot --help explains"))
+            fail(
+                &rt,
+                eprintln!(
+                    rt,
+                    "depot: one journal at a time, {word} is a second one; depot --help explains"
+                ),
+            )
         }
         Ok(Request::Run { raw, file }) => {
             let style = if raw { Style::Raw } else { Style::Plain };
@@ -33,14 +42,20 @@ fn main(rt: LibcRuntime) -> Result<(), Failed> {
                 None => run_input(&rt, style),
             }
         }
-        Err(e) => fail(&rt, eprintln!(rt, "depot: the command line cannot be read: {e}")),
+        Err(e) => fail(
+            &rt,
+            eprintln!(rt, "depot: the command line cannot be read: {e}"),
+        ),
     }
 }
 
 fn run_file(rt: &LibcRuntime, path: &str, style: Style) -> Result<(), Failed> {
     match fs::read(rt, path) {
         Ok(text) => run(rt, path, text.as_slice(), style),
-        Err(e) => fail(rt, eprintln!(rt, "depot: {path}: the journal cannot be read: {e}")),
+        Err(e) => fail(
+            rt,
+            eprintln!(rt, "depot: {path}: the journal cannot be read: {e}"),
+        ),
     }
 }
 
@@ -48,7 +63,10 @@ fn run_input(rt: &LibcRuntime, style: Style) -> Result<(), Failed> {
     let mut text = Vec::new(rt.alloc());
     match rt.stdin().read_to_end(&mut text) {
         Ok(_) => run(rt, "standard input", text.as_slice(), style),
-        Err(e) => fail(rt, eprintln!(rt, "depot: standard input: the journal cannot be read: {e}")),
+        Err(e) => fail(
+            rt,
+            eprintln!(rt, "depot: standard input: the journal cannot be read: {e}"),
+        ),
     }
 }
 
@@ -57,7 +75,10 @@ fn run(rt: &LibcRuntime, name: &str, text: &[u8], style: Style) -> Result<(), Fa
     match read_journal(rt.alloc(), text) {
         Ok(entries) => {
             let mut out = BufWriter::new(rt.stdout());
-            told(rt, write_charts(rt.alloc(), &mut out, entries.as_slice(), style))?;
+            told(
+                rt,
+                write_charts(rt.alloc(), &mut out, entries.as_slice(), style),
+            )?;
             told(rt, out.flush())
         }
         Err(fault) => fail(rt, eprintln!(rt, "depot: {name}: {fault}")),
@@ -68,7 +89,10 @@ fn run(rt: &LibcRuntime, name: &str, text: &[u8], style: Style) -> Result<(), Fa
 fn told(rt: &LibcRuntime, written: io::Result<()>) -> Result<(), Failed> {
     match written {
         Ok(()) => Ok(()),
-        Err(e) => fail(rt, eprintln!(rt, "depot: the answers cannot be written: {e}")),
+        Err(e) => fail(
+            rt,
+            eprintln!(rt, "depot: the answers cannot be written: {e}"),
+        ),
     }
 }
 

@@ -49,8 +49,12 @@ abbrev pub entries-from : ℕ → Stage → List (List ℕ) → Result (List Num
 entries-from n stage [] = Ok []
 entries-from n stage (line ∷ lines) = then-lines n (placed-line stage line) (λ after. entries-from (n + 1) after lines)
 
+-- a journal has fewer bytes than this, so that its lines can be numbered in 32 bits
+abbrev pub too-long : ℕ
+too-long = 2 ^ 32 - 1
+
 abbrev pub journal-of : List ℕ → Result (List NumberedEntry) Fault
-journal-of text = cond (leb (2 ^ 32 - 1) (length text)) (Err TooLong) (entries-from 1 Start (lines-of text))
+journal-of text = cond (leb too-long (length text)) (Err TooLong) (entries-from 1 Start (lines-of text))
 
 -- what was read is the journal, unless memory ran out
 abbrev pub Reads : Result (Vec NumberedEntry Global) Fault → Result (List NumberedEntry) Fault → Type 0

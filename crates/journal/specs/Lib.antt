@@ -2,4 +2,3 @@ pub mod Words
 pub mod Entries
 pub mod Places
 pub mod Journals
-pub mod Sections

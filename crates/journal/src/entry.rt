@@ -11,8 +11,14 @@ use capacity::row::Row;
 
 #[derive(Clone, Copy)]
 pub enum Entry {
-    Strapped { date: u32 },
-    Upright { date: u32, height: u32, litres_per_metre: u32 },
+    Strapped {
+        date: u32,
+    },
+    Upright {
+        date: u32,
+        height: u32,
+        litres_per_metre: u32,
+    },
     Row(Row),
     Datum(u32),
     Limit(u32),
@@ -20,7 +26,7 @@ pub enum Entry {
 }
 
 /// The entry of a line, or none where it holds only blanks and a comment.
-pub fn entry_of(line: &[u8]) -> Result<Option<Entry>, Wrong>
+pub(crate) fn entry_of(line: &[u8]) -> Result<Option<Entry>, Wrong>
     ensures { λ r. ⌜ r ≡ entry-of (now (line .entry)) ⌝ }
 {
     let mut words = Words::of(line);

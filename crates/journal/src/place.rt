@@ -7,7 +7,7 @@ use super::wrong::Wrong;
 
 /// How far a journal has come: what the last entry was.
 #[derive(Clone, Copy, PartialEq, Eq, Debug)]
-pub enum Stage {
+pub(crate) enum Stage {
     Start,
     /// A strapped survey or one of its rows.
     Rows,
@@ -20,7 +20,7 @@ pub enum Stage {
 
 impl Stage {
     /// The stage after an entry, or that the entry may not stand here.
-    pub fn after(self, entry: Entry) -> Result<Stage, Wrong>
+    pub(crate) fn after(self, entry: Entry) -> Result<Stage, Wrong>
         ensures { λ r. ⌜ r ≡ placed self entry ⌝ }
     {
         match (self, entry) {

@@ -34,7 +34,10 @@ pub impl fmt::Display for Fault as FaultDisplay {
     fn fmt<W: fmt::Write>(&self, f: &mut fmt::Formatter<W>) -> fmt::Result {
         match *self {
             Fault::NoMemory => write!(f, "there is not enough memory to read the journal"),
-            Fault::TooLong => write!(f, "the journal is too long; expected fewer than 4294967295 bytes"),
+            Fault::TooLong => write!(
+                f,
+                "the journal is too long; expected fewer than 4294967295 bytes"
+            ),
             Fault::Line(line, wrong) => write!(f, "line {line}: {wrong}"),
         }
     }

@@ -13,7 +13,7 @@ pub enum Verb {
 }
 
 impl Verb {
-    pub fn of(word: &[u8]) -> Option<Verb>
+    pub(crate) fn of(word: &[u8]) -> Option<Verb>
         ensures { λ r. ⌜ r ≡ verb-of (now (word .entry)) ⌝ }
     {
         if spells(word, b"survey") {

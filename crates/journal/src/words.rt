@@ -45,12 +45,12 @@ pub(crate) fn front(text: &[u8], kind: Kind) -> usize
 
 /// What is left of a line: its words are separated by blanks, and `#` begins a comment.
 #[derive(Clone, Copy)]
-pub struct Words<'a> {
+pub(crate) struct Words<'a> {
     rest: &'a [u8],
 }
 
 impl<'a> Words<'a> {
-    pub fn of(line: &'a [u8]) -> Words<'a>
+    pub(crate) fn of(line: &'a [u8]) -> Words<'a>
         ensures { λ r. ⌜ now (r .rest) ≡ before-comment (now (line .entry)) ⌝ }
     {
         let (rest, _comment) = line.split_at(front(line, Kind::NoComment));
@@ -58,7 +58,7 @@ impl<'a> Words<'a> {
     }
 
     /// The next word, or none at the end of the line.
-    pub fn next(&mut self) -> Option<&'a [u8]>
+    pub(crate) fn next(&mut self) -> Option<&'a [u8]>
         ensures word { λ r. ⌜ Cases r (next-word (now (now (self .entry) .rest)) ≡ []) (λ w. (now w ≡ next-word (now (now (self .entry) .rest))) × (0 < length (now w))) ⌝ }
         ensures rest { λ _. ⌜ now (now (self .exit) .rest) ≡ after-word (now (now (self .entry) .rest)) ⌝ }
     {
@@ -74,7 +74,7 @@ impl<'a> Words<'a> {
 }
 
 /// The whole number below 2^32 that decimal digits write.
-pub fn number(word: &[u8]) -> Option<u32>
+pub(crate) fn number(word: &[u8]) -> Option<u32>
     ensures { λ r. ⌜ r ≡ decimal (now (word .entry)) ⌝ }
 {
     if word.is_empty() {
@@ -94,7 +94,7 @@ pub fn number(word: &[u8]) -> Option<u32>
 }
 
 /// Whether the word is this text.
-pub fn spells(word: &[u8], text: &[u8]) -> bool
+pub(crate) fn spells(word: &[u8], text: &[u8]) -> bool
     ensures { λ r. ⌜ r ≡ sameBytes (now (word .entry)) (now (text .entry)) ⌝ }
 {
     word == text

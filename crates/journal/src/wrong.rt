@@ -44,15 +44,24 @@ fn place(verb: Verb) -> &'static str {
 pub impl fmt::Display for Wrong as WrongDisplay {
     fn fmt<W: fmt::Write>(&self, f: &mut fmt::Formatter<W>) -> fmt::Result {
         match *self {
-            Wrong::UnknownWord => write!(f, "unknown word; expected survey, row, datum, limit or dip"),
-            Wrong::UnknownShape => write!(f, "unknown kind of survey; expected strapped or upright after the date"),
+            Wrong::UnknownWord => write!(
+                f,
+                "unknown word; expected survey, row, datum, limit or dip"
+            ),
+            Wrong::UnknownShape => write!(
+                f,
+                "unknown kind of survey; expected strapped or upright after the date"
+            ),
             Wrong::Missing(verb) => {
                 let form = usage(verb);
                 write!(f, "a word is missing; expected {form}")
             }
             Wrong::Number(verb) => {
                 let form = usage(verb);
-                write!(f, "not a whole number from 0 to 4294967295; expected {form}")
+                write!(
+                    f,
+                    "not a whole number from 0 to 4294967295; expected {form}"
+                )
             }
             Wrong::Extra(verb) => {
                 let form = usage(verb);

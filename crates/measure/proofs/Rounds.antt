@@ -76,8 +76,8 @@ pub fraction-rounding : FractionRounding
 fraction-rounding = record {
   near = λ x. within-≃ one-half (whole (rounded-fraction x)) (quotient (numerator x) (x .den) (x .some)) x (near (numerator x) (x .den) (x .some)) (same-quotient x);
   monotone = λ x y le. monotone (numerator x) (numerator y) (x .den) (y .den) (x .some) (y .some)
-    (≃-⊑ (quotient (numerator x) (x .den) (x .some)) x (quotient (numerator y) (y .den) (y .some)) (same-quotient x)
-    (⊑-≃ x y (quotient (numerator y) (y .den) (y .some)) le (≃-sym (quotient (numerator y) (y .den) (y .some)) y (same-quotient y))));
+      (≃-⊑ (quotient (numerator x) (x .den) (x .some)) x (quotient (numerator y) (y .den) (y .some)) (same-quotient x)
+      (⊑-≃ x y (quotient (numerator y) (y .den) (y .some)) le (≃-sym (quotient (numerator y) (y .den) (y .some)) y (same-quotient y))));
   exact = λ a. let once : numerator (whole a) ≡ a *ℤ pos 1 = omega (arith, ints) in ap (λ (b : ℤ). rounded b 1) once ∙ exact a 1 (lit< tt);
 }
 

@@ -110,6 +110,7 @@ pub ⊗-mono : (x y z : Fraction) → natural 0 ⊑ z → x ⊑ y → x ⊗ z �
   where
     crossed-by : (a s c t : ℕ) → a * (c + t) + (a + s) * c ≤ a * c + (a + s) * (c + t)
     crossed-by a s c t = omega arith
+
     crossed : (a b c d : ℕ) → a ≤ b → c ≤ d → a * d + b * c ≤ a * c + b * d
     crossed a b c d h k =
         subst₂ (λ (x y : ℕ). a * y + x * c ≤ a * c + x * y) (add-sub-of-le h) (add-sub-of-le k) (crossed-by a (b - a) c (d - c))

@@ -74,7 +74,6 @@ x ⊗ y = record {
 
 -- ---- order, by multiplying across
 infix 4 _⊑_ _≃_
-
 -- x is at most y
 abbrev pub _⊑_ : Fraction → Fraction → Type 0
 x ⊑ y = x .up * y .den + y .down * x .den ≤ y .up * x .den + x .down * y .den

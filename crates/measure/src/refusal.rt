@@ -31,7 +31,7 @@ pub struct Refusal {
 }
 
 impl Cause {
-    pub fn layer(self) -> u8
+    fn layer(self) -> u8
         ensures { λ r. ⌜ r ≡ layer-of self ⌝ }
     {
         match self {
@@ -44,7 +44,7 @@ impl Cause {
         }
     }
 
-    pub fn number(self) -> u8
+    fn number(self) -> u8
         ensures { λ r. ⌜ r ≡ number-of self ⌝ }
     {
         match self {
@@ -110,23 +110,41 @@ pub impl fmt::Display for Refusal as RefusalDisplay {
 fn explain<W: fmt::Write>(f: &mut fmt::Formatter<W>, cause: Cause, place: i64) -> fmt::Result {
     match cause {
         Cause::RowCount => {
-            write!(f, "the survey has {place} rows, a strapped table takes 2 to 256: complete the survey or thin out its rows")
+            write!(
+                f,
+                "a strapped table takes 2 to 256 rows and the survey has {place}: complete the survey or thin out its rows"
+            )
         }
         Cause::FirstHeight => {
-            write!(f, "the first row is not at height 0: begin the survey's rows at the datum")
+            write!(
+                f,
+                "the first row is not at height 0: begin the survey's rows at the datum"
+            )
         }
         Cause::RowHeight => {
-            write!(f, "row {place}, counted from 0, is not above the row before it or is above 40000.0 mm: correct its height")
+            write!(
+                f,
+                "row {place}, counted from 0, is not above the row before it or is above 40000.0 mm: correct its height"
+            )
         }
         Cause::RowLitres => {
-            write!(f, "row {place}, counted from 0, holds less than the row before it or more than 200000000 litres: correct its litres")
+            write!(
+                f,
+                "row {place}, counted from 0, holds less than the row before it or more than 200000000 litres: correct its litres"
+            )
         }
         Cause::HeightNotCovered => {
             let height = Tenths(place);
-            write!(f, "the capacity table does not cover the height {height} mm: take the dip again or survey the tank up to it")
+            write!(
+                f,
+                "the capacity table does not cover the height {height} mm: take the dip again or survey the tank up to it"
+            )
         }
         Cause::UprightLimit => {
-            write!(f, "{place} is too much for an upright tank, at most 40000.0 mm high and 5000000 litres to the metre: correct the survey")
+            write!(
+                f,
+                "{place} is too much for an upright tank, at most 40000.0 mm high and 5000000 litres to the metre: correct the survey"
+            )
         }
     }
 }

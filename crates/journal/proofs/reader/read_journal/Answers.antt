@@ -42,8 +42,8 @@ gathered : (c : need.Joined-entry) → vec-items (c .match-entry .entries) ≡ w
 gathered c =
     let added : Option Entry → List NumberedEntry = with-entry (vec-items (c .loop-entry .entries)) (c .loop-entry .line) in
     elim (c .match-entry .came) [
-      in-Some·in-Continue-push w ↦ ap vec-items (w .entries-is) ∙ w .in-Continue-push .ensures tt .items ∙ sym (ap added (w .in-Some .is))
-    | in-rest w ↦ ap vec-items (w .entries-is) ∙ sym (ap added (w .in-rest .is))
+      | in-Some·in-Continue-push w ↦ ap vec-items (w .entries-is) ∙ w .in-Continue-push .ensures tt .items ∙ sym (ap added (w .in-Some .is))
+      | in-rest w ↦ ap vec-items (w .entries-is) ∙ sym (ap added (w .in-rest .is))
     ]
 
 -- the line at hand is read, and any lines may follow it
@@ -74,7 +74,8 @@ loop-entry-again c =
     let after = c .split-at .result .1 .now in
     let apart = eqb-false (length after) 0 (sym (c .if-is-empty .ensures tt)) in
     let some : 0 < length after = omega (arith, apart) in
-    let next : following after ≡ lines-of (c .split-at-in-loop-entry .result .1 .now) = some-following after some ∙ ap lines-of (sym (c .split-at-in-loop-entry .ensures .back)) in
-    (passed-on (need.at·loop-entry-again c .Joined-entry) (lines-of (c .split-at-in-loop-entry .result .1 .now)) next,
-    omega (arith, c .loop-entry .inv .1, c .split-at .ensures .back-len, c .split-at-in-loop-entry .ensures .back-len),
-    c .loop-entry .inv .2)
+    let next : following after ≡ lines-of (c .split-at-in-loop-entry .result .1 .now) = some-following after some ∙ ap lines-of (sym (c .split-at-in-loop-entry .ensures .back)) in (
+      passed-on (need.at·loop-entry-again c .Joined-entry) (lines-of (c .split-at-in-loop-entry .result .1 .now)) next,
+      omega (arith, c .loop-entry .inv .1, c .split-at .ensures .back-len, c .split-at-in-loop-entry .ensures .back-len),
+      c .loop-entry .inv .2,
+    )

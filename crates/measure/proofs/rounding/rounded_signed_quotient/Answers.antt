@@ -1,10 +1,8 @@
-use mathlib.Core.Path.{_≡_, sym, _∙_, ap}
-use Prim.Native.Nat.{ℕ, _-_, _≤_}
+use mathlib.Core.Path.{_≡_, ap, _∙_}
+use Prim.Native.Nat.{ℕ, _≤_}
 use native.Mathlib.Omega.{arith}
-use lib.IntN.{pos, negsuc, natAbs, negℤ, _-ℤ_}
+use lib.IntN.{pos, natAbs}
 use lib.Signed.{_≤ℤ_, _<ℤ_}
-use mir.Val.{SFits, toZ, ofZ}
-use mir.Syntax.{w64}
 use borrow.Author.Differences.{ints}
 use Rattle.std.proofs.shelf.Signed.{toZ-ofZ}
 use Rattle.measure.specs.Rounding.{nearest}
@@ -31,8 +29,8 @@ returns-then-a-ge0 c =
     let f = c .fits .a in
     let s = size (need.at·returns-then-a-ge0 c .After-rounded-quotient-size) in
     let above : pos 0 ≤ℤ c .args .a = omega (arith, ints) in
-    let value : toZ w64 (c .rounded-quotient-size .result) ≡ pos (c .rounded-quotient-size .result) = omega (arith, ints, s .1) in
-    value ∙ ap pos (s .0) ∙ sym (rounded-above (c .args .a) (c .args .d) above)
+    let is = rounded-above (c .args .a) (c .args .d) above in
+    omega (arith, ints, is, s .0, s .1)
 
 pub cast-result-2 : need.cast-result-2
 cast-result-2 c =
@@ -45,5 +43,5 @@ returns c =
     let f = c .fits .a in
     let s = size (need.at·returns c .After-rounded-quotient-size) in
     let below : c .args .a <ℤ pos 0 = omega (arith, ints) in
-    let value : toZ w64 (ofZ w64 (negsuc 0 -ℤ toZ w64 (c .rounded-quotient-size .result - 1))) ≡ negℤ (pos (c .rounded-quotient-size .result)) = omega (arith, ints, s .1) in
-    value ∙ ap (λ (n : ℕ). negℤ (pos n)) (s .0) ∙ sym (rounded-below (c .args .a) (c .args .d) below)
+    let is = rounded-below (c .args .a) (c .args .d) below in
+    omega (arith, ints, is, s .0, s .1)

@@ -1,8 +1,9 @@
 use mathlib.Core.Path.{_≡_, sym, ap, _∙_}
-use Prim.Native.Nat.{_+_, _-_, _<_}
-use lib.ListN.{length, getD}
+use Prim.Native.Nat.{ℕ, _+_, _<_}
+use lib.ListN.{length}
 use native.Mathlib.Omega.{arith}
 use Rattle.std.proofs.shelf.Tests.{ltb-true}
+use Rattle.capacity.specs.declared.row.Row.{Row}
 use Rattle.capacity.specs.Rows.{rows-reach}
 use Rattle.capacity.specs.StrappedTables.{strapped-laws, strapped-reach}
 use Rattle.capacity.proofs.RowPlaces.{last-is-reach}
@@ -14,8 +15,8 @@ reached c =
     let rows = c .rows .result .now in
     let item = c .in-Some .ensures tt .item in
     let some : 0 < length rows = ltb-true 0 (length rows) (sym (item .0)) in
-    let is-last = ap (λ row. row .height + 1) (item .1) in
-    is-last ∙ last-is-reach rows (c .in-Some .row .now) some ∙ ap rows-reach (c .rows .ensures .value)
+    let past : Row → ℕ = λ row. row .height + 1 in
+    ap past (item .1) ∙ last-is-reach rows (c .in-Some .row .now) some ∙ ap rows-reach (c .rows .ensures .value)
 
 pub add-result : need.add-result
 add-result c = omega (arith, reached c, strapped-laws .reach-most (c .args .self .now))

@@ -1,0 +1,90 @@
+//! The part of a journal that belongs to one survey: the survey and what stands under it.
+ghost use mathlib.Core.Path.{_≡_};
+ghost use Prim.Native.Nat.{_≤_, _<_};
+ghost use lib.ListN.{length};
+ghost use Rattle.std.specs.Of.Vec.{vec-items};
+ghost use Rattle.std.specs.Vec.{made};
+ghost use Rattle.sections.specs.Sections.{begins-survey, entries-under, section-length, rows-in, datum-in, limit-in};
+use capacity::row::Row;
+use journal::entry::Entry;
+use journal::reader::NumberedEntry;
+use measure::limits::HIGHEST_LEVEL;
+use std::alloc::AllocError;
+use std::alloc::Global;
+
+fn is_survey(entry: Entry) -> bool
+    ensures { λ r. ⌜ r ≡ begins-survey entry ⌝ }
+{
+    match entry {
+        Entry::Strapped { date: _ } => true,
+        Entry::Upright {
+            date: _,
+            height: _,
+            litres_per_metre: _,
+        } => true,
+        Entry::Row(_) | Entry::Datum(_) | Entry::Limit(_) | Entry::Dip(_) => false,
+    }
+}
+
+/// How many entries stand before the next survey.
+fn under_survey(entries: &[NumberedEntry]) -> usize
+    ensures value { λ r. ⌜ r ≡ entries-under (now (entries .entry)) ⌝ }
+    ensures bound { λ r. ⌜ r ≤ length (now (entries .entry)) ⌝ }
+{
+    for (i, numbered) in entries.iter().enumerate() {
+        if is_survey(numbered.entry) {
+            return i;
+        }
+    }
+    entries.len()
+}
+
+/// How many entries the first survey takes up with what stands under it.
+pub fn section_length(entries: &[NumberedEntry]) -> usize
+    ensures value { λ r. ⌜ r ≡ section-length (now (entries .entry)) ⌝ }
+    ensures bound { λ r. ⌜ r ≤ length (now (entries .entry)) ⌝ }
+    ensures some { λ r. ⌜ (0 < length (now (entries .entry)) → 0 < r) ⌝ }
+{
+    if entries.is_empty() {
+        return 0;
+    }
+    let (_survey, rest) = entries.split_at(1);
+    1 + under_survey(rest)
+}
+
+/// The rows of a section.
+pub fn rows_of(heap: Global, entries: &[NumberedEntry]) -> Result<Vec<Row>, AllocError>
+    ensures { λ r. ⌜ made r (λ rows. vec-items rows ≡ rows-in (now (entries .entry))) ⌝ }
+{
+    let mut rows = Vec::new(heap);
+    for numbered in entries {
+        if let Entry::Row(row) = numbered.entry {
+            rows.push(row)?;
+        }
+    }
+    Ok(rows)
+}
+
+/// The datum of a section, 0 where it has none.
+pub fn datum_of(entries: &[NumberedEntry]) -> u32
+    ensures { λ r. ⌜ r ≡ datum-in (now (entries .entry)) ⌝ }
+{
+    for numbered in entries {
+        if let Entry::Datum(rise) = numbered.entry {
+            return rise;
+        }
+    }
+    0
+}
+
+/// The fill limit of a section, the highest level where it has none.
+pub fn limit_of(entries: &[NumberedEntry]) -> u32
+    ensures { λ r. ⌜ r ≡ limit-in (now (entries .entry)) ⌝ }
+{
+    for numbered in entries {
+        if let Entry::Limit(limit) = numbered.entry {
+            return limit;
+        }
+    }
+    HIGHEST_LEVEL
+}

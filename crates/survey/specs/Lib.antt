@@ -1,0 +1,2 @@
+pub mod SurveyedTables
+pub mod Surveys
