@@ -1,3 +1,4 @@
 pub mod Answered
 pub mod Tenths
 pub mod RowPlaces
+pub mod RowTests

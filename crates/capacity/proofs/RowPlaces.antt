@@ -16,6 +16,10 @@ use Rattle.capacity.specs.Rows.{sound, rows-reach, line, volume-above, rows-vo
 use Rattle.capacity.specs.RowLaws.{Rises, Clear, next-rises, FirstSound, first-sound}
 use Rattle.capacity.specs.RowSearch.{row-at, Upper, Spans}
 
+-- what stands where the rows have ended
+abbrev pub nowhere : Row
+nowhere = record { height = 0; litres = 0 }
+
 -- ---- rising by places
 
 pub rises-above : (j : ℕ) (low : Row) (rows : List Row) (i : ℕ) → Clear j low rows → i < length rows → Rises (row-at (low ∷ rows) i) (row-at rows i)
@@ -96,11 +100,11 @@ covered-at rows i h s u =
     let inside = u .inside in
     let enough = u .not-below in
     let up = climb rows i (length rows - 1) s (omega arith) (omega arith) in
-    omega (arith, last-is-reach rows (record { height = 0; litres = 0 }) (omega arith))
+    omega (arith, last-is-reach rows nowhere (omega arith))
 
 -- a height above the last row is not covered
 pub beyond-last : (rows : List Row) (h : ℕ) → 0 < length rows → row-at rows (length rows - 1) .height < h → rows-reach rows ≤ h
-beyond-last rows h some above = omega (arith, last-is-reach rows (record { height = 0; litres = 0 }) some)
+beyond-last rows h some above = omega (arith, last-is-reach rows nowhere some)
 
 pub nothing-covered : (rows : List Row) (h : ℕ) → length rows ≡ 0 → rows-reach rows ≤ h
 nothing-covered [] h none = omega arith

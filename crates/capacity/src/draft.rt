@@ -1,6 +1,9 @@
 //! A draft: rows of a survey that nobody has examined. Only sealing makes a table of it.
 ghost use mathlib.Core.Path.{_≡_};
-ghost use Rattle.capacity.specs.Rows.{examined, sealed};
+ghost use mathlib.Core.List.{[], _∷_};
+ghost use Prim.Native.Nat.{_<_};
+ghost use Rattle.capacity.specs.Limits.{most-rows};
+ghost use Rattle.capacity.specs.Rows.{examined, examined-above, sealed};
 use super::row::Row;
 use super::strapped::Strapped;
 use measure::limits::HIGHEST_LEVEL;
@@ -42,11 +45,8 @@ impl<'a> Draft<'a> {
         let mut last = first;
         for i in 1..count {
             let row = self.rows[i];
-            if row.height <= last.height || row.height > HIGHEST_LEVEL {
-                return Some(Cause::RowHeight.at(i as i64));
-            }
-            if row.litres < last.litres || row.litres > LARGEST_LITRES {
-                return Some(Cause::RowLitres.at(i as i64));
+            if let Some(refusal) = row_refusal(i, last, row) {
+                return Some(refusal);
             }
             last = row;
         }
@@ -64,4 +64,18 @@ impl<'a> Draft<'a> {
             None => Strapped::over(rows),
         }
     }
+}
+
+/// What is wrong with the row at place `i`, above the row `last`: the height is asked before the litres.
+fn row_refusal(i: usize, last: Row, row: Row) -> Option<Refusal>
+    requires { ⌜ i < most-rows ⌝ }
+    ensures { λ r. ⌜ r ≡ examined-above i last (row ∷ []) ⌝ }
+{
+    if row.height <= last.height || row.height > HIGHEST_LEVEL {
+        return Some(Cause::RowHeight.at(i as i64));
+    }
+    if row.litres < last.litres || row.litres > LARGEST_LITRES {
+        return Some(Cause::RowLitres.at(i as i64));
+    }
+    None
 }

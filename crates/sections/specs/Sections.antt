@@ -2,11 +2,16 @@
 use mathlib.Core.Bool.{Bool, true, false, cond}
 use mathlib.Core.List.{List, [], _∷_}
 use Prim.Native.Nat.{ℕ, _+_}
-use Rattle.measure.specs.Limits.{highest-level}
+use Rattle.std.specs.declared.option.Option.{Option}
+use Rattle.std.specs.declared.option.Option.the-variants.{Some, None}
 use Rattle.capacity.specs.declared.row.Row.{Row as TableRow}
 use Rattle.journal.specs.declared.entry.Entry.{Entry}
 use Rattle.journal.specs.declared.entry.Entry.the-variants.{Strapped, Upright, Row, Datum, Limit, Dip}
 use Rattle.journal.specs.declared.reader.NumberedEntry.{NumberedEntry}
+use Rattle.sections.specs.declared.Layer.{Layer}
+use Rattle.sections.specs.declared.Layer.the-variants.{Datum as DatumLayer, Limit as LimitLayer}
+
+-- ---- how far a section goes
 
 abbrev pub begins-survey : Entry → Bool
 begins-survey (Strapped date) = true
@@ -26,41 +31,52 @@ abbrev pub section-length : List NumberedEntry → ℕ
 section-length [] = 0
 section-length (e ∷ es) = 1 + entries-under es
 
--- the row of an entry, before those of others
-abbrev pub row-before : Entry → List TableRow → List TableRow
-row-before (Strapped date) rows = rows
-row-before (Upright date height litres-per-metre) rows = rows
-row-before (Row row) rows = row ∷ rows
-row-before (Datum rise) rows = rows
-row-before (Limit limit) rows = rows
-row-before (Dip height) rows = rows
+-- ---- its rows
+
+abbrev pub row-of : Entry → Option TableRow
+row-of (Strapped date) = None
+row-of (Upright date height litres-per-metre) = None
+row-of (Row row) = Some row
+row-of (Datum rise) = None
+row-of (Limit limit) = None
+row-of (Dip height) = None
+
+abbrev pub row-before : Option TableRow → List TableRow → List TableRow
+row-before None rows = rows
+row-before (Some row) rows = row ∷ rows
 
 abbrev pub rows-in : List NumberedEntry → List TableRow
 rows-in [] = []
-rows-in (e ∷ es) = row-before (e .entry) (rows-in es)
+rows-in (e ∷ es) = row-before (row-of (e .entry)) (rows-in es)
 
-abbrev pub datum-before : Entry → ℕ → ℕ
-datum-before (Strapped date) rest = rest
-datum-before (Upright date height litres-per-metre) rest = rest
-datum-before (Row row) rest = rest
-datum-before (Datum rise) rest = rise
-datum-before (Limit limit) rest = rest
-datum-before (Dip height) rest = rest
+-- ---- its layers
 
--- the first datum, 0 where there is none
-abbrev pub datum-in : List NumberedEntry → ℕ
-datum-in [] = 0
-datum-in (e ∷ es) = datum-before (e .entry) (datum-in es)
+abbrev datum-of : Entry → Option ℕ
+datum-of (Strapped date) = None
+datum-of (Upright date height litres-per-metre) = None
+datum-of (Row row) = None
+datum-of (Datum rise) = Some rise
+datum-of (Limit limit) = None
+datum-of (Dip height) = None
 
-abbrev pub limit-before : Entry → ℕ → ℕ
-limit-before (Strapped date) rest = rest
-limit-before (Upright date height litres-per-metre) rest = rest
-limit-before (Row row) rest = rest
-limit-before (Datum rise) rest = rest
-limit-before (Limit limit) rest = limit
-limit-before (Dip height) rest = rest
+abbrev limit-of : Entry → Option ℕ
+limit-of (Strapped date) = None
+limit-of (Upright date height litres-per-metre) = None
+limit-of (Row row) = None
+limit-of (Datum rise) = None
+limit-of (Limit limit) = Some limit
+limit-of (Dip height) = None
 
--- the first fill limit, the highest level where there is none
-abbrev pub limit-in : List NumberedEntry → ℕ
-limit-in [] = highest-level
-limit-in (e ∷ es) = limit-before (e .entry) (limit-in es)
+-- the height of a layer, where the entry sets one
+abbrev pub height-of : Layer → Entry → Option ℕ
+height-of DatumLayer e = datum-of e
+height-of LimitLayer e = limit-of e
+
+abbrev pub or-else : Option ℕ → Option ℕ → Option ℕ
+or-else (Some h) rest = Some h
+or-else None rest = rest
+
+-- the first height that a section sets for a layer
+abbrev pub first-height : Layer → List NumberedEntry → Option ℕ
+first-height layer [] = None
+first-height layer (e ∷ es) = or-else (height-of layer (e .entry)) (first-height layer es)

@@ -3,14 +3,64 @@ ghost use mathlib.Core.Path.{_≡_};
 ghost use Prim.Native.Nat.{_≤_, _<_};
 ghost use lib.ListN.{length};
 ghost use Rattle.std.specs.Of.Vec.{vec-items};
+ghost use Rattle.std.specs.Options.{valueOr};
 ghost use Rattle.std.specs.Vec.{made};
-ghost use Rattle.sections.specs.Sections.{begins-survey, entries-under, section-length, rows-in, datum-in, limit-in};
+ghost use Rattle.measure.specs.Limits.{highest-level};
+ghost use Rattle.sections.specs.declared.Layer.the-variants.{Datum as DatumLayer, Limit as LimitLayer};
+ghost use Rattle.sections.specs.Sections.{begins-survey, entries-under, section-length, row-of, rows-in, height-of, first-height};
 use capacity::row::Row;
 use journal::entry::Entry;
 use journal::reader::NumberedEntry;
 use measure::limits::HIGHEST_LEVEL;
 use std::alloc::AllocError;
 use std::alloc::Global;
+
+/// What may stand above a survey's table.
+#[derive(Clone, Copy)]
+enum Layer {
+    Datum,
+    Limit,
+}
+
+/// How many entries the first survey takes up with what stands under it.
+pub fn section_length(entries: &[NumberedEntry]) -> usize
+    ensures value { λ r. ⌜ r ≡ section-length (now (entries .entry)) ⌝ }
+    ensures bound { λ r. ⌜ r ≤ length (now (entries .entry)) ⌝ }
+    ensures some { λ r. ⌜ (0 < length (now (entries .entry)) → 0 < r) ⌝ }
+{
+    if entries.is_empty() {
+        return 0;
+    }
+    let (_survey, rest) = entries.split_at(1);
+    1 + under_survey(rest)
+}
+
+/// The rows of a section.
+pub fn rows_of(heap: Global, entries: &[NumberedEntry]) -> Result<Vec<Row>, AllocError>
+    ensures { λ r. ⌜ made r (λ rows. vec-items rows ≡ rows-in (now (entries .entry))) ⌝ }
+{
+    let mut rows = Vec::new(heap);
+    for numbered in entries {
+        if let Some(row) = row_of(numbered.entry) {
+            rows.push(row)?;
+        }
+    }
+    Ok(rows)
+}
+
+/// The datum of a section, 0 where it has none.
+pub fn datum_of(entries: &[NumberedEntry]) -> u32
+    ensures { λ r. ⌜ r ≡ valueOr (first-height DatumLayer (now (entries .entry))) 0 ⌝ }
+{
+    first_height(Layer::Datum, entries).unwrap_or(0)
+}
+
+/// The fill limit of a section, the highest level where it has none.
+pub fn limit_of(entries: &[NumberedEntry]) -> u32
+    ensures { λ r. ⌜ r ≡ valueOr (first-height LimitLayer (now (entries .entry))) highest-level ⌝ }
+{
+    first_height(Layer::Limit, entries).unwrap_or(HIGHEST_LEVEL)
+}
 
 fn is_survey(entry: Entry) -> bool
     ensures { λ r. ⌜ r ≡ begins-survey entry ⌝ }
@@ -39,52 +89,34 @@ fn under_survey(entries: &[NumberedEntry]) -> usize
     entries.len()
 }
 
-/// How many entries the first survey takes up with what stands under it.
-pub fn section_length(entries: &[NumberedEntry]) -> usize
-    ensures value { λ r. ⌜ r ≡ section-length (now (entries .entry)) ⌝ }
-    ensures bound { λ r. ⌜ r ≤ length (now (entries .entry)) ⌝ }
-    ensures some { λ r. ⌜ (0 < length (now (entries .entry)) → 0 < r) ⌝ }
+fn row_of(entry: Entry) -> Option<Row>
+    ensures { λ r. ⌜ r ≡ row-of entry ⌝ }
 {
-    if entries.is_empty() {
-        return 0;
+    match entry {
+        Entry::Row(row) => Some(row),
+        _ => None,
     }
-    let (_survey, rest) = entries.split_at(1);
-    1 + under_survey(rest)
 }
 
-/// The rows of a section.
-pub fn rows_of(heap: Global, entries: &[NumberedEntry]) -> Result<Vec<Row>, AllocError>
-    ensures { λ r. ⌜ made r (λ rows. vec-items rows ≡ rows-in (now (entries .entry))) ⌝ }
+/// The height of a layer, where the entry sets one.
+fn height_of(layer: Layer, entry: Entry) -> Option<u32>
+    ensures { λ r. ⌜ r ≡ height-of layer entry ⌝ }
 {
-    let mut rows = Vec::new(heap);
-    for numbered in entries {
-        if let Entry::Row(row) = numbered.entry {
-            rows.push(row)?;
-        }
+    match (layer, entry) {
+        (Layer::Datum, Entry::Datum(rise)) => Some(rise),
+        (Layer::Limit, Entry::Limit(limit)) => Some(limit),
+        _ => None,
     }
-    Ok(rows)
 }
 
-/// The datum of a section, 0 where it has none.
-pub fn datum_of(entries: &[NumberedEntry]) -> u32
-    ensures { λ r. ⌜ r ≡ datum-in (now (entries .entry)) ⌝ }
+/// The first height that a section sets for a layer.
+fn first_height(layer: Layer, entries: &[NumberedEntry]) -> Option<u32>
+    ensures { λ r. ⌜ r ≡ first-height layer (now (entries .entry)) ⌝ }
 {
     for numbered in entries {
-        if let Entry::Datum(rise) = numbered.entry {
-            return rise;
+        if let Some(height) = height_of(layer, numbered.entry) {
+            return Some(height);
         }
     }
-    0
-}
-
-/// The fill limit of a section, the highest level where it has none.
-pub fn limit_of(entries: &[NumberedEntry]) -> u32
-    ensures { λ r. ⌜ r ≡ limit-in (now (entries .entry)) ⌝ }
-{
-    for numbered in entries {
-        if let Entry::Limit(limit) = numbered.entry {
-            return limit;
-        }
-    }
-    HIGHEST_LEVEL
+    None
 }

@@ -41,10 +41,10 @@ impl<'a> SurveyedTank<'a> {
     pub fn of(survey: &Survey<'a>) -> SurveyedTank<'a>
         ensures { λ r. ⌜ MadeOf (now (survey .entry)) r ⌝ }
     {
-        let Examined { refused, table } = Examined::of(survey.shape);
+        let examined = Examined::of(survey.shape);
         SurveyedTank {
-            refused,
-            table: layered(table, survey),
+            refused: examined.refused,
+            table: layered(examined.table, survey),
         }
     }
 
@@ -82,6 +82,7 @@ fn layered<'a>(table: Surveyed<'a>, survey: &Survey<'a>) -> FillLimit<RaisedDatu
 }
 
 /// What was surveyed, examined, and its table before the layers.
+#[derive(Clone, Copy)]
 struct Examined<'a> {
     refused: Option<Refusal>,
     table: Surveyed<'a>,

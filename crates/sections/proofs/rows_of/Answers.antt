@@ -4,12 +4,12 @@ use Prim.Native.Nat.{ℕ, _+_}
 use lib.ListN.{drop}
 use Rattle.std.proofs.shelf.Lists.{at-drop-more, at-drop-all}
 use Rattle.std.specs.Of.Vec.{vec-items}
+use Rattle.std.specs.declared.option.Option.{Option}
 use Rattle.capacity.specs.declared.row.Row.{Row}
-use Rattle.journal.specs.declared.entry.Entry.{Entry}
 use Rattle.sections.specs.Sections.{rows-in, row-before}
-use Rattle.sections.proofs.Steps.{past-end, no-row}
+use Rattle.sections.proofs.PastEnd.{past-end}
 use Rattle.sections.proofs.rows_of.Needs as need
-use Rattle.sections.proofs.rows_of.Needs.{in-Row·in-Continue-push, in-rest}
+use Rattle.sections.proofs.rows_of.Needs.{in-Some·in-Continue-push, in-rest}
 
 pub loop-numbered-again : need.loop-numbered-again
 loop-numbered-again c =
@@ -18,14 +18,14 @@ loop-numbered-again c =
     let so-far : List Row = vec-items (c .loop-numbered .rows) in
     let rest : List Row = rows-in (drop (i + 1) entries) in
     let joined : List Row → List Row = λ rows. so-far ++ rows in
-    let first : Entry → List Row = λ e. so-far ++ row-before e rest in
+    let first : Option Row → List Row = λ row. so-far ++ row-before row rest in
     let gathered : List Row → List Row = λ rows. rows ++ rest in
-    let left = c .loop-numbered .inv ∙ ap joined (at-drop-more rows-in entries i past-end (c .loop-numbered-test .taken)) in
-    elim (c .match-numbered .came) [
-      | in-Row·in-Continue-push w ↦
-          left ∙ ap first (w .in-Row .is) ∙ sym (append-assoc so-far (w .in-Row .row ∷ []) rest)
+    let left = c .loop-numbered .inv ∙ ap joined (at-drop-more rows-in entries i past-end (c .loop-numbered-test .taken)) ∙ ap first (sym (c .row-of .ensures)) in
+    elim (c .match-row-of .came) [
+      | in-Some·in-Continue-push w ↦
+          left ∙ ap first (w .in-Some .is) ∙ sym (append-assoc so-far (w .in-Some .row ∷ []) rest)
           ∙ ap gathered (sym (ap vec-items (w .rows-is) ∙ w .in-Continue-push .ensures tt .items))
-      | in-rest w ↦ left ∙ ap joined (no-row _ rest (w .in-rest .not-Row)) ∙ ap gathered (sym (ap vec-items (w .rows-is)))
+      | in-rest w ↦ left ∙ ap first (w .in-rest .is) ∙ ap gathered (sym (ap vec-items (w .rows-is)))
     ]
 
 pub returns : need.returns

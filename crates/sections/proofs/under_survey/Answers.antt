@@ -2,7 +2,7 @@ use native.Mathlib.Omega.{arith}
 use Rattle.std.proofs.shelf.Lists.{at-drop-more, at-drop-all}
 use Rattle.std.proofs.shelf.Ways.{tells}
 use Rattle.sections.specs.Sections.{entries-under}
-use Rattle.sections.proofs.Steps.{past-end}
+use Rattle.sections.proofs.PastEnd.{past-end}
 use Rattle.sections.proofs.under_survey.Needs as need
 
 pub returns-then-is-survey : need.returns-then-is-survey
