@@ -6,10 +6,9 @@ use measure::refusal::Refusal;
 use measure::refusal::RefusalDisplay;
 use measure::tenths::Tenths;
 use measure::tenths::TenthsDisplay;
-use sections::datum_of;
-use sections::limit_of;
 use sections::rows_of;
 use sections::section_length;
+use sections::survey_of;
 use std::alloc::Global;
 use std::io;
 use std::io::Write;
@@ -47,32 +46,12 @@ fn write_chart<W: Write>(
     style: Style,
 ) -> io::Result<()> {
     let rows = rows_of(heap, section)?;
-    let Some(first) = section.first() else {
+    let Some(dated) = survey_of(section, rows.as_slice()) else {
         return Ok(());
     };
-    let (date, shape) = match first.entry {
-        Entry::Upright {
-            date,
-            height,
-            litres_per_metre,
-        } => (
-            date,
-            Shape::Upright {
-                height,
-                litres_per_metre,
-            },
-        ),
-        Entry::Strapped { date } => (date, Shape::Strapped(rows.as_slice())),
-        _ => return Ok(()),
-    };
-    let survey = Survey {
-        shape,
-        datum: datum_of(section),
-        limit: limit_of(section),
-    };
-    let tank = SurveyedTank::of(&survey);
+    let tank = SurveyedTank::of(&dated.survey);
     if style == Style::Plain {
-        write_heading(out, date, &survey, &tank)?;
+        write_heading(out, dated.date, &dated.survey, &tank)?;
     }
     for numbered in section {
         if let Entry::Dip(height) = numbered.entry {

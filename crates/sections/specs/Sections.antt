@@ -1,13 +1,20 @@
 -- The part of a journal that belongs to one survey.
+use mathlib.Core.Path.{_≡_}
 use mathlib.Core.Bool.{Bool, true, false, cond}
 use mathlib.Core.List.{List, [], _∷_}
 use Prim.Native.Nat.{ℕ, _+_}
+use denote.Ref.{now}
+use Rattle.std.specs.Options.{valueOr}
 use Rattle.std.specs.declared.option.Option.{Option}
 use Rattle.std.specs.declared.option.Option.the-variants.{Some, None}
+use Rattle.measure.specs.Limits.{highest-level}
 use Rattle.capacity.specs.declared.row.Row.{Row as TableRow}
+use Rattle.survey.specs.declared.tank.Shape.{Shape}
+use Rattle.survey.specs.declared.tank.Shape.the-variants.{Strapped as StrappedShape, Upright as UprightShape}
 use Rattle.journal.specs.declared.entry.Entry.{Entry}
 use Rattle.journal.specs.declared.entry.Entry.the-variants.{Strapped, Upright, Row, Datum, Limit, Dip}
 use Rattle.journal.specs.declared.reader.NumberedEntry.{NumberedEntry}
+use Rattle.sections.specs.declared.DatedSurvey.{DatedSurvey}
 use Rattle.sections.specs.declared.Layer.{Layer}
 use Rattle.sections.specs.declared.Layer.the-variants.{Datum as DatumLayer, Limit as LimitLayer}
 
@@ -80,3 +87,40 @@ or-else None rest = rest
 abbrev pub first-height : Layer → List NumberedEntry → Option ℕ
 first-height layer [] = None
 first-height layer (e ∷ es) = or-else (height-of layer (e .entry)) (first-height layer es)
+
+-- ---- its survey
+
+abbrev pub date-of : Entry → Option ℕ
+date-of (Strapped date) = Some date
+date-of (Upright date height litres-per-metre) = Some date
+date-of (Row row) = None
+date-of (Datum rise) = None
+date-of (Limit limit) = None
+date-of (Dip height) = None
+
+-- the date of the survey that begins a section
+abbrev pub section-date : List NumberedEntry → Option ℕ
+section-date [] = None
+section-date (e ∷ es) = date-of (e .entry)
+
+-- what an entry surveyed: these rows, or the walls that it gives
+abbrev surveyed-as : Entry → List TableRow → Shape → Type 0
+surveyed-as (Strapped date) rows (StrappedShape held) = now held ≡ rows
+surveyed-as (Strapped date) rows (UprightShape height litres-per-metre) = ⊥
+surveyed-as (Upright date h q) rows (StrappedShape held) = ⊥
+surveyed-as (Upright date h q) rows (UprightShape height litres-per-metre) = (height ≡ h) × (litres-per-metre ≡ q)
+surveyed-as (Row row) rows shape = ⊥
+surveyed-as (Datum rise) rows shape = ⊥
+surveyed-as (Limit limit) rows shape = ⊥
+surveyed-as (Dip height) rows shape = ⊥
+
+abbrev section-shape : List NumberedEntry → List TableRow → Shape → Type 0
+section-shape [] rows shape = ⊥
+section-shape (e ∷ es) rows shape = surveyed-as (e .entry) rows shape
+
+-- a section's survey over rows: its date, what was surveyed, its datum and its fill limit
+pub record SurveyOf (section : List NumberedEntry) (rows : List TableRow) (d : DatedSurvey) : Type 0 where
+  pub dated : section-date section ≡ Some (d .date)
+  pub shaped : section-shape section rows (d .survey .shape)
+  pub raised : d .survey .datum ≡ valueOr (first-height DatumLayer section) 0
+  pub limited : d .survey .limit ≡ valueOr (first-height LimitLayer section) highest-level

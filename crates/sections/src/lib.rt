@@ -3,23 +3,33 @@ ghost use mathlib.Core.Path.{_≡_};
 ghost use Prim.Native.Nat.{_≤_, _<_};
 ghost use lib.ListN.{length};
 ghost use Rattle.std.specs.Of.Vec.{vec-items};
-ghost use Rattle.std.specs.Options.{valueOr};
+ghost use Rattle.std.specs.Options.{valueOr, Cases};
 ghost use Rattle.std.specs.Vec.{made};
+ghost use Rattle.std.specs.declared.option.Option.the-variants.{None};
 ghost use Rattle.measure.specs.Limits.{highest-level};
 ghost use Rattle.sections.specs.declared.Layer.the-variants.{Datum as DatumLayer, Limit as LimitLayer};
-ghost use Rattle.sections.specs.Sections.{begins-survey, entries-under, section-length, row-of, rows-in, height-of, first-height};
+ghost use Rattle.sections.specs.Sections.{begins-survey, entries-under, section-length, row-of, rows-in, height-of, first-height, section-date, SurveyOf};
 use capacity::row::Row;
 use journal::entry::Entry;
 use journal::reader::NumberedEntry;
 use measure::limits::HIGHEST_LEVEL;
 use std::alloc::AllocError;
 use std::alloc::Global;
+use survey::tank::Shape;
+use survey::tank::Survey;
 
 /// What may stand above a survey's table.
 #[derive(Clone, Copy)]
 enum Layer {
     Datum,
     Limit,
+}
+
+/// A survey and its date, YYYYMMDD.
+#[derive(Clone, Copy)]
+pub struct DatedSurvey<'a> {
+    pub date: u32,
+    pub survey: Survey<'a>,
 }
 
 /// How many entries the first survey takes up with what stands under it.
@@ -49,17 +59,47 @@ pub fn rows_of(heap: Global, entries: &[NumberedEntry]) -> Result<Vec<Row>, Allo
 }
 
 /// The datum of a section, 0 where it has none.
-pub fn datum_of(entries: &[NumberedEntry]) -> u32
+fn datum_of(entries: &[NumberedEntry]) -> u32
     ensures { λ r. ⌜ r ≡ valueOr (first-height DatumLayer (now (entries .entry))) 0 ⌝ }
 {
     first_height(Layer::Datum, entries).unwrap_or(0)
 }
 
 /// The fill limit of a section, the highest level where it has none.
-pub fn limit_of(entries: &[NumberedEntry]) -> u32
+fn limit_of(entries: &[NumberedEntry]) -> u32
     ensures { λ r. ⌜ r ≡ valueOr (first-height LimitLayer (now (entries .entry))) highest-level ⌝ }
 {
     first_height(Layer::Limit, entries).unwrap_or(HIGHEST_LEVEL)
+}
+
+/// The survey of a section with the rows that were gathered from it, and its date. None where no survey begins it.
+pub fn survey_of<'a>(section: &[NumberedEntry], rows: &'a [Row]) -> Option<DatedSurvey<'a>>
+    ensures { λ r. ⌜ Cases r (section-date (now (section .entry)) ≡ None) (SurveyOf (now (section .entry)) (now (rows .entry))) ⌝ }
+{
+    let Some(first) = section.first() else {
+        return None;
+    };
+    let (date, shape) = match first.entry {
+        Entry::Strapped { date } => (date, Shape::Strapped(rows)),
+        Entry::Upright {
+            date,
+            height,
+            litres_per_metre,
+        } => (
+            date,
+            Shape::Upright {
+                height,
+                litres_per_metre,
+            },
+        ),
+        _ => return None,
+    };
+    let survey = Survey {
+        shape,
+        datum: datum_of(section),
+        limit: limit_of(section),
+    };
+    Some(DatedSurvey { date, survey })
 }
 
 fn is_survey(entry: Entry) -> bool
