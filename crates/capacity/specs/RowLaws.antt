@@ -3,8 +3,7 @@ use mathlib.Core.Path.{_≡_, refl, sym, ap, subst, subst₂}
 use mathlib.Core.Bool.{Bool, true, false, cond}
 use mathlib.Core.List.{List, [], _∷_}
 use Prim.Native.Nat.{ℕ, zero, suc, _+_, _-_, _*_, _≤_, _<_}
-use native.Mathlib.Bridge.{le-prop}
-use native.Mathlib.Nat.{not-suc-le-zero, zero-lt-suc, mul-le-mul-left, mul-le-mul-right}
+use native.Mathlib.Nat.{mul-le-mul-left, mul-le-mul-right}
 use native.Mathlib.Omega.{arith}
 use lib.Dec.{leb, ltb, eqb}
 use Rattle.std.proofs.shelf.Tests.{or-parts, not-false, leb-true, leb-false, ltb-false, eqb-true, cond-both, false≢true}
@@ -13,7 +12,7 @@ use Rattle.std.specs.declared.option.Option.the-variants.{Some, None}
 use Rattle.measure.specs.declared.refusal.Refusal.{Refusal}
 use Rattle.measure.specs.Limits.{highest-level, largest-reach, largest-litres}
 use Rattle.measure.specs.Fractions.{Fraction, natural, none, over, per, _⊕_, _⊑_}
-use Rattle.measure.specs.FractionLaws.{⊑-refl, ⊑-trans, ⊕-mono}
+use Rattle.measure.specs.FractionLaws.{per-is, ⊑-refl, ⊑-trans, ⊕-mono}
 use Rattle.capacity.specs.declared.row.Row.{Row}
 use Rattle.capacity.specs.Rows.{refused-if, examined-above, examined-rows, examined, nothing-found, sound, rows-reach, line, volume-above, rows-volume}
 
@@ -66,10 +65,6 @@ first-sound first rows h =
     }
 
 -- ---- one straight line
-
-per-is : (n d : ℕ) (h : 0 < d) → per n d ≡ over n d h
-per-is n zero h = absurd (not-suc-le-zero h)
-per-is n (suc d) h = ap (λ (p : 0 < suc d). over n (suc d) p) (le-prop (zero-lt-suc d) h)
 
 pub run-some : {low high : Row} → Rises low high → 0 < high .height - low .height
 run-some r = let rises = r .height-rises in omega arith

@@ -6,6 +6,13 @@ use denote.Ref.{now}
 use Rattle.std.specs.declared.result.Result.{Result}
 use Rattle.std.specs.declared.result.Result.the-variants.{Ok, Err}
 use Rattle.measure.specs.declared.refusal.Refusal.{Refusal}
+use lib.IntN.{pos}
+use Rattle.measure.specs.declared.refusal.Cause.the-variants.{DensityOutside}
+use Rattle.measure.specs.Refusals.{refusal}
+use Rattle.product.specs.declared.api.ApiRule.{ApiRule}
+use Rattle.product.specs.declared.api.ApiRule.the-variants.{Crude, Products, Lubricants}
+use Rattle.product.specs.ApiRules.{api-meaning}
+use Rattle.product.specs.Rules.{answered as rule-answered}
 use Rattle.capacity.specs.declared.row.Row.{Row}
 use Rattle.capacity.specs.declared.raised_datum.RaisedDatum.{RaisedDatum}
 use Rattle.capacity.specs.declared.strapped.Strapped.{Strapped}
@@ -19,10 +26,13 @@ pub data Figure : Type 0 where
   dip : List Row → ℕ → Result ℕ Refusal → Figure
   -- rows, a datum, a height, and the answer of their sealed table under that datum
   dip-under-datum : List Row → ℕ → ℕ → Result ℕ Refusal → Figure
+  -- a rule, a density, and its answer
+  coefficient : ApiRule → ℕ → Result ℕ Refusal → Figure
 
 abbrev pub Holds : Figure → Type 0
 Holds (dip rows h answer) = (t : Strapped) → now (t .rows) ≡ sealed rows → answered strapped-meaning t h ≡ answer
 Holds (dip-under-datum rows s h answer) = (t : RaisedDatum Strapped) → now (t .below .rows) ≡ sealed rows → t .rise ≡ counted-rise s → answered (raised-meaning strapped-meaning) t h ≡ answer
+Holds (coefficient rule r answer) = rule-answered api-meaning rule r ≡ answer
 
 abbrev row : ℕ → ℕ → Row
 row height litres = record { height = height; litres = litres }
@@ -41,4 +51,10 @@ checked-figures =
     ∷ dip tall 100001 (Err (not-covered 100001))
     ∷ dip-under-datum tall 10 99990 (Ok 10000000)
     ∷ dip-under-datum tall 10 99991 (Err (not-covered 99991))
+    ∷ coefficient Crude 1700 (Ok 849788651)
+    ∷ coefficient Crude 1221 (Ok 1647317990)
+    ∷ coefficient Crude 1220 (Err (refusal DensityOutside (pos 1220)))
+    ∷ coefficient Products 1540 (Ok 1154155507)
+    ∷ coefficient Products 1541 (Ok 1151710581)
+    ∷ coefficient Lubricants 2328 (Ok 539347079)
     ∷ []

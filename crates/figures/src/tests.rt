@@ -1,4 +1,5 @@
 //! Figures from outside, run.
+mod gauges;
 mod rounding;
 mod tables;
 mod words;

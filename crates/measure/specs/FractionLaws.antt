@@ -1,11 +1,12 @@
 -- The laws of exact fractions: an order, sums and products that keep it, and distances that add up.
 use mathlib.Core.Path.{_≡_, subst₂, ap}
-use Prim.Native.Nat.{ℕ, _+_, _-_, _*_, _≤_, _<_}
-use native.Mathlib.Nat.{mul-le-mul-right, le-of-mul-le-mul-right, add-sub-of-le, le-of-eq}
+use Prim.Native.Nat.{ℕ, zero, suc, _+_, _-_, _*_, _≤_, _<_}
+use native.Mathlib.Bridge.{le-prop}
+use native.Mathlib.Nat.{mul-le-mul-right, le-of-mul-le-mul-right, add-sub-of-le, le-of-eq, not-suc-le-zero, zero-lt-suc}
 use native.Mathlib.Omega.{arith}
 use lib.IntN.{ℤ, negℤ, _+ℤ_, _*ℤ_}
 use borrow.Author.Differences.{sum-is, product-is, neg-is}
-use Rattle.measure.specs.Fractions.{Fraction, whole, natural, _⊕_, _⊖_, _⊗_, negated, _⊑_, _≃_, Within}
+use Rattle.measure.specs.Fractions.{Fraction, whole, natural, over, per, _⊕_, _⊖_, _⊗_, negated, _⊑_, _≃_, Within}
 
 -- ---- order
 
@@ -18,6 +19,12 @@ pub ⊑-trans : (x y z : Fraction) → x ⊑ y → y ⊑ z → x ⊑ z
 
 pub ⊑-antisym : (x y : Fraction) → x ⊑ y → y ⊑ x → x ≃ y
 ⊑-antisym x y p q = omega arith
+
+-- ---- quotients
+
+pub per-is : (n d : ℕ) (h : 0 < d) → per n d ≡ over n d h
+per-is n zero h = absurd (not-suc-le-zero h)
+per-is n (suc d) h = ap (λ (p : 0 < suc d). over n (suc d) p) (le-prop (zero-lt-suc d) h)
 
 -- ---- the same number
 

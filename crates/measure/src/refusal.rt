@@ -9,6 +9,14 @@ use std::fmt;
 /// Why a call is refused. specs/Refusals.antt gives each cause its layer and its number.
 #[derive(Clone, Copy, PartialEq, Eq, Debug)]
 pub enum Cause {
+    /// A gauge that holds a fault code. Place: 1,000 times the instrument, plus the code.
+    FaultHeld,
+    /// A gauge that has heard nothing. Place: the instrument, or 0 for an empty gate.
+    NothingHeard,
+    /// A gate that has lost the level. Place: the held level.
+    GateLost,
+    /// A sample with a number outside its limits. Place: the first such number.
+    SampleOutside,
     /// A draft of fewer than 2 or more than 256 rows. Place: the count.
     RowCount,
     /// The first row of a draft is not at height 0. Place: 0.
@@ -21,6 +29,10 @@ pub enum Cause {
     HeightNotCovered,
     /// An upright tank that is too high, or holds too much to the metre. Place: the value.
     UprightLimit,
+    /// A density outside the range of the product rule. Place: the density.
+    DensityOutside,
+    /// A fixed coefficient that is too large. Place: the value.
+    CoefficientLimit,
 }
 
 #[derive(Clone, Copy, PartialEq, Eq, Debug)]
@@ -35,12 +47,14 @@ impl Cause {
         ensures { λ r. ⌜ r ≡ layer-of self ⌝ }
     {
         match self {
+            Cause::FaultHeld | Cause::NothingHeard | Cause::GateLost | Cause::SampleOutside => 1,
             Cause::RowCount
             | Cause::FirstHeight
             | Cause::RowHeight
             | Cause::RowLitres
             | Cause::HeightNotCovered
             | Cause::UprightLimit => 3,
+            Cause::DensityOutside | Cause::CoefficientLimit => 4,
         }
     }
 
@@ -48,12 +62,18 @@ impl Cause {
         ensures { λ r. ⌜ r ≡ number-of self ⌝ }
     {
         match self {
+            Cause::FaultHeld => 10,
+            Cause::NothingHeard => 11,
+            Cause::GateLost => 12,
+            Cause::SampleOutside => 13,
             Cause::RowCount => 20,
             Cause::FirstHeight => 21,
             Cause::RowHeight => 22,
             Cause::RowLitres => 23,
             Cause::HeightNotCovered => 24,
             Cause::UprightLimit => 25,
+            Cause::DensityOutside => 30,
+            Cause::CoefficientLimit => 31,
         }
     }
 
@@ -75,12 +95,18 @@ impl Refusal {
         ensures { λ r. ⌜ Names r (now (self .entry)) ⌝ }
     {
         match (self.layer, self.number) {
+            (1, 10) => Some(Cause::FaultHeld),
+            (1, 11) => Some(Cause::NothingHeard),
+            (1, 12) => Some(Cause::GateLost),
+            (1, 13) => Some(Cause::SampleOutside),
             (3, 20) => Some(Cause::RowCount),
             (3, 21) => Some(Cause::FirstHeight),
             (3, 22) => Some(Cause::RowHeight),
             (3, 23) => Some(Cause::RowLitres),
             (3, 24) => Some(Cause::HeightNotCovered),
             (3, 25) => Some(Cause::UprightLimit),
+            (4, 30) => Some(Cause::DensityOutside),
+            (4, 31) => Some(Cause::CoefficientLimit),
             _ => None,
         }
     }
@@ -109,6 +135,31 @@ pub impl fmt::Display for Refusal as RefusalDisplay {
 
 fn explain<W: fmt::Write>(f: &mut fmt::Formatter<W>, cause: Cause, place: i64) -> fmt::Result {
     match cause {
+        Cause::FaultHeld => {
+            write!(
+                f,
+                "the gauge holds a fault, {place} names its instrument and code: have the instrument looked at"
+            )
+        }
+        Cause::NothingHeard => {
+            write!(
+                f,
+                "nothing has been heard from the gauge: wait for its first sample"
+            )
+        }
+        Cause::GateLost => {
+            let level = Tenths(place);
+            write!(
+                f,
+                "the level keeps jumping and is lost near {level} mm: wait until it settles"
+            )
+        }
+        Cause::SampleOutside => {
+            write!(
+                f,
+                "{place} is outside the limits of a sample: look at the instrument that sent it"
+            )
+        }
         Cause::RowCount => {
             write!(
                 f,
@@ -138,6 +189,18 @@ fn explain<W: fmt::Write>(f: &mut fmt::Formatter<W>, cause: Cause, place: i64) -
             write!(
                 f,
                 "the capacity table does not cover the height {height} mm: take the dip again or survey the tank up to it"
+            )
+        }
+        Cause::DensityOutside => {
+            write!(
+                f,
+                "the product rule does not cover the density {place}, in half kilograms per cubic metre: choose the rule of the product"
+            )
+        }
+        Cause::CoefficientLimit => {
+            write!(
+                f,
+                "the fixed coefficient {place} is above 20000: correct it"
             )
         }
         Cause::UprightLimit => {

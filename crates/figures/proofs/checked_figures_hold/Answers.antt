@@ -15,7 +15,10 @@ returns c = (
       by-rows tall 100001 _ refl,
       (
         by-rows-and-datum tall 10 99990 _ refl,
-        (by-rows-and-datum tall 10 99991 _ refl, tt),
+        (
+          by-rows-and-datum tall 10 99991 _ refl,
+          (refl, (refl, (refl, (refl, (refl, (refl, tt)))))),
+        ),
       ),
     ),
   ),

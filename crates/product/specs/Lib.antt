@@ -1,0 +1,5 @@
+pub mod Limits
+pub mod Rules
+pub mod FixedRules
+pub mod Lines
+pub mod ApiRules
