@@ -1,4 +1,6 @@
 //! Capacity tables: what a tank holds at each height, from a survey.
+#![tactic(auto)]
+
 pub mod draft;
 pub mod fill_limit;
 pub mod raised_datum;

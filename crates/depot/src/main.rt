@@ -1,4 +1,6 @@
 //! depot: a journal in, answers out.
+#![tactic(auto)]
+
 mod chart;
 mod options;
 

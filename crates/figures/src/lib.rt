@@ -1,4 +1,6 @@
 //! The checked figures: answers known from outside, proved of the definitions that every contract cites, and run.
+#![tactic(auto)]
+
 ghost use Rattle.figures.specs.Figures.{Holds, checked_figures};
 ghost use Rattle.std.specs.List.{AllByRecursion as All};
 

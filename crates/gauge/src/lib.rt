@@ -1,4 +1,6 @@
 //! Gauges: what tells the level of a tank, or why it cannot.
+#![tactic(auto)]
+
 pub mod gate;
 pub mod gauge_trait;
 pub mod laws;

@@ -1,3 +1,5 @@
 //! Calls as values, and whole histories of them.
+#![tactic(auto)]
+
 pub mod call;
 pub mod run;

@@ -1,4 +1,6 @@
 //! Product rules: how much a product expands, from its density.
+#![tactic(auto)]
+
 pub mod api;
 pub mod fixed;
 pub mod limits;

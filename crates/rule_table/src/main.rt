@@ -1,4 +1,6 @@
 //! Prints what every rule answers at every density, one line each, for comparison with a table made elsewhere.
+#![tactic(auto)]
+
 use measure::refusal::Refusal;
 use product::api::ApiRule;
 use product::fixed::FixedCoefficient;

@@ -1,4 +1,6 @@
 //! The part of a journal that belongs to one survey: the survey and what stands under it.
+#![tactic(auto)]
+
 ghost use Rattle.std.specs.Prelude.{◌≡◌, ◌<◌, ◌≤◌, length, IfOk, None, MatchOption};
 ghost use Rattle.std.specs.Option.{unwrap_or};
 ghost use Rattle.measure.specs.Limits.{highest_level};

@@ -1,4 +1,6 @@
 //! What tables keep beyond their single answers, each law on the contract of a call.
+#![tactic(auto)]
+
 ghost use Rattle.table_laws.specs.AnswerLaws.{AnswerLaws};
 ghost use Rattle.table_laws.specs.SurveyLaws.{ExaminationLaws, StraightLines};
 

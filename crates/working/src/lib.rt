@@ -1,4 +1,6 @@
 //! The whole-number working of one reading: from what was observed to litres and kilograms.
+#![tactic(auto)]
+
 mod correction;
 pub mod element;
 pub mod figures;
