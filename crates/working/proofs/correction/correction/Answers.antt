@@ -5,7 +5,7 @@ use Rattle.working.specs.Steps.{unit, correction, correction_step, correction_fr
 use Rattle.working.proofs.Ranges.{Between, size_most}
 use Rattle.working.proofs.Sizes.{Corrected, step_corrected, step_first}
 use Rattle.working.proofs.correction.correction.Goals as goal
-use Rattle.working.proofs.correction.correction.Goals.{After-rounded-signed-quotient-p}
+use Rattle.working.proofs.correction.correction.Goals.{After-rounded_signed_quotient-p}
 
 pub loop-k-init : goal.loop-k-init
 unfolding correction
@@ -25,29 +25,29 @@ product-requires c =
     let p : nat_abs c.loop-k.p ≤ 1200000000 = omega (arith, ints) in
     simp (to_z-of_z, same) (le_trans (mul-le-mul v p) (lit≤ tt))
 
-record Stepped (c : goal.After-rounded-signed-quotient-p) : Type 0 where
-  value : pos unit -ℤ c.rounded-signed-quotient-p.result ≡ correction_step c.args.v (c.loop-k.k - 1) c.loop-k.p
-  size : Corrected (pos unit -ℤ c.rounded-signed-quotient-p.result)
+record Stepped (c : goal.After-rounded_signed_quotient-p) : Type 0 where
+  value : pos unit -ℤ c.rounded_signed_quotient-p.result ≡ correction_step c.args.v (c.loop-k.k - 1) c.loop-k.p
+  size : Corrected (pos unit -ℤ c.rounded_signed_quotient-p.result)
 
-stepped : (c : goal.After-rounded-signed-quotient-p) → Stepped c
+stepped : (c : goal.After-rounded_signed_quotient-p) → Stepped c
 stepped c =
     let v = c.args.v in
     let k = c.loop-k.k - 1 in
     let f = c.ranges.v in
-    let g : SFits w64 c.product.result = record { sfits = c.product.type-inv } in
+    let g : SFits w64 c.product.result = record { sfits = c.product.type_inv } in
     let same = c.loop-k.p-is in
     let times : c.product.result ≡ v *ℤ c.loop-k.p = simp (to_z-of_z, same) at c.product.ensures in
-    let over : c.rounded-signed-quotient-p.result ≡ rounded c.product.result (k * unit) = simp to_z-of_z at c.rounded-signed-quotient-p.ensures in
-    let quotient : c.rounded-signed-quotient-p.result ≡ rounded (v *ℤ c.loop-k.p) (k * unit) = over ∙ ap (λ (x : ℤ). rounded x (k * unit)) times in
-    let value : pos unit -ℤ c.rounded-signed-quotient-p.result ≡ correction_step v k c.loop-k.p = ap (λ (x : ℤ). pos unit -ℤ x) quotient in
+    let over : c.rounded_signed_quotient-p.result ≡ rounded c.product.result (k * unit) = simp to_z-of_z at c.rounded_signed_quotient-p.ensures in
+    let quotient : c.rounded_signed_quotient-p.result ≡ rounded (v *ℤ c.loop-k.p) (k * unit) = over ∙ ap (λ (x : ℤ). rounded x (k * unit)) times in
+    let value : pos unit -ℤ c.rounded_signed_quotient-p.result ≡ correction_step v k c.loop-k.p = ap (λ (x : ℤ). pos unit -ℤ x) quotient in
     let b : Between 110000000 330000000 v = record { least = c.requires.0; most = c.requires.1 } in
     let some : 0 < k = let h = c.loop-k-test.true in omega arith in
     let so_far : Corrected c.loop-k.p = subst (λ (x : ℤ). Corrected x) same c.loop-k.invariant.1 in
     record { value = value; size = subst (λ (x : ℤ). Corrected x) (sym value) (step_corrected v c.loop-k.p k some b so_far) }
 
-pub overflow-sub-p : goal.overflow-sub-p
-overflow-sub-p c =
-    let f : SFits w64 c.rounded-signed-quotient-p.result = record { sfits = c.rounded-signed-quotient-p.type-inv } in
+pub overflow_sub-p : goal.overflow_sub-p
+overflow_sub-p c =
+    let f : SFits w64 c.rounded_signed_quotient-p.result = record { sfits = c.rounded_signed_quotient-p.type_inv } in
     let s = (stepped c).size in
     let l = s.least in
     let m = s.most in
@@ -57,8 +57,8 @@ pub loop-k-preserved : goal.loop-k-preserved
 loop-k-preserved c =
     let v = c.args.v in
     let f = c.ranges.v in
-    let g : SFits w64 c.rounded-signed-quotient-p.result = record { sfits = c.rounded-signed-quotient-p.type-inv } in
-    let next = pos unit -ℤ c.rounded-signed-quotient-p.result in
+    let g : SFits w64 c.rounded_signed_quotient-p.result = record { sfits = c.rounded_signed_quotient-p.type_inv } in
+    let next = pos unit -ℤ c.rounded_signed_quotient-p.result in
     let s = stepped c in
     let size = s.size in
     let l = size.least in

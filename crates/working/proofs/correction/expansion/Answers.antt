@@ -19,12 +19,12 @@ unfolding expansion
 returns c =
     let d = c.args.offset in
     let f = c.ranges.offset in
-    let g : SFits w64 c.product.result = record { sfits = c.product.type-inv } in
-    let h : SFits w64 c.rounded-signed-quotient.result = record { sfits = c.rounded-signed-quotient.type-inv } in
+    let g : SFits w64 c.product.result = record { sfits = c.product.type_inv } in
+    let h : SFits w64 c.rounded_signed_quotient.result = record { sfits = c.rounded_signed_quotient.type_inv } in
     let w : to_z w64 c.args.coefficient ≡ pos c.args.coefficient = omega (arith, ints) in
     let times : c.product.result ≡ pos c.args.coefficient *ℤ d = simp (to_z-of_z, w) at c.product.ensures in
-    let over : c.rounded-signed-quotient.result ≡ rounded c.product.result 10000000000 = simp to_z-of_z at c.rounded-signed-quotient.ensures in
-    let value : c.rounded-signed-quotient.result ≡ expansion c.args.coefficient d = over ∙ ap (λ (x : ℤ). rounded x 10000000000) times in
+    let over : c.rounded_signed_quotient.result ≡ rounded c.product.result 10000000000 = simp to_z-of_z at c.rounded_signed_quotient.ensures in
+    let value : c.rounded_signed_quotient.result ≡ expansion c.args.coefficient d = over ∙ ap (λ (x : ℤ). rounded x 10000000000) times in
     let offset : Offset d = record { least = c.requires.1.0; most = c.requires.1.1 } in
     let size = expansion_size c.args.coefficient d c.requires.0 offset in
     let l = size.least in

@@ -15,8 +15,8 @@ returns-in-Plain c =
     let same : r ≡ c.args.density = c.from-r.ensures in
     let top : r ≤ 2400 = omega arith in
     record {
-      value = c.rounded-quotient.ensures ∙ ap (λ (n : ℕ). rounded (pos (s * n)) 20000) same ∙ sym (ap (λ (m : Method). mass m (pos s) c.args.density) c.in-Plain.is);
-      bound = quotient_most (s * r) 20000 most_mass c.rounded-quotient.result (lit< tt) (omega (arith, mul-le-mul c.requires.0 top)) c.rounded-quotient.ensures;
+      value = c.rounded_quotient.ensures ∙ ap (λ (n : ℕ). rounded (pos (s * n)) 20000) same ∙ sym (ap (λ (m : Method). mass m (pos s) c.args.density) c.in-Plain.is);
+      bound = quotient_most (s * r) 20000 most_mass c.rounded_quotient.result (lit< tt) (omega (arith, mul-le-mul c.requires.0 top)) c.rounded_quotient.ensures;
     }
 
 pub returns-in-InAir : goal.returns-in-InAir
@@ -27,6 +27,6 @@ returns-in-InAir c =
     let same : r ≡ c.args.density = c.from-r.ensures in
     let top : 5 * r - 11 ≤ 11989 = omega arith in
     record {
-      value = c.rounded-quotient-in-InAir.ensures ∙ ap (λ (n : ℕ). rounded (pos (s * (5 * n - 11))) 100000) same ∙ sym (ap (λ (m : Method). mass m (pos s) c.args.density) c.in-InAir.is);
-      bound = quotient_most (s * (5 * r - 11)) 100000 most_mass c.rounded-quotient-in-InAir.result (lit< tt) (omega (arith, mul-le-mul c.requires.0 top)) c.rounded-quotient-in-InAir.ensures;
+      value = c.rounded_quotient-in-InAir.ensures ∙ ap (λ (n : ℕ). rounded (pos (s * (5 * n - 11))) 100000) same ∙ sym (ap (λ (m : Method). mass m (pos s) c.args.density) c.in-InAir.is);
+      bound = quotient_most (s * (5 * r - 11)) 100000 most_mass c.rounded_quotient-in-InAir.result (lit< tt) (omega (arith, mul-le-mul c.requires.0 top)) c.rounded_quotient-in-InAir.ensures;
     }

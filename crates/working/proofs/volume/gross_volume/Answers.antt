@@ -6,6 +6,6 @@ use Rattle.working.proofs.volume.gross_volume.Goals as goal
 pub returns : goal.returns
 unfolding scaled
 returns c = record {
-  value = c.rounded-quotient.ensures;
-  bound = quotient_most (c.args.observed * c.args.wall_factor) unit 2018000000 c.rounded-quotient.result (lit< tt) (mul-le-mul c.requires.0 c.requires.1) c.rounded-quotient.ensures;
+  value = c.rounded_quotient.ensures;
+  bound = quotient_most (c.args.observed * c.args.wall_factor) unit 2018000000 c.rounded_quotient.result (lit< tt) (mul-le-mul c.requires.0 c.requires.1) c.rounded_quotient.ensures;
 }

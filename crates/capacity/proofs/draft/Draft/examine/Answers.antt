@@ -11,14 +11,14 @@ returns-in-Some c =
     let rows = c.args.self.now.rows.now in
     let i = c.loop-i.i in
     sym (c.loop-i.invariant ∙ at_drop_more (examined_above i c.loop-i.last) rows i nowhere c.loop-i-test.true
-    ∙ row_found i c.loop-i.last _ (drop (i + 1) rows) _ (sym c.row-refusal.ensures ∙ c.in-Some.is))
+    ∙ row_found i c.loop-i.last _ (drop (i + 1) rows) _ (sym c.row_refusal.ensures ∙ c.in-Some.is))
 
 pub loop-i-preserved : goal.loop-i-preserved
 loop-i-preserved c =
     let rows = c.args.self.now.rows.now in
     let i = c.loop-i.i in
     c.loop-i.invariant ∙ at_drop_more (examined_above i c.loop-i.last) rows i nowhere c.loop-i-test.true
-    ∙ row_clear i c.loop-i.last _ (drop (i + 1) rows) (sym c.row-refusal.ensures ∙ c.in-default.is)
+    ∙ row_clear i c.loop-i.last _ (drop (i + 1) rows) (sym c.row_refusal.ensures ∙ c.in_default.is)
 
 pub returns : goal.returns
 returns c =

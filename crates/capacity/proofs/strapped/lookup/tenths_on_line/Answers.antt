@@ -11,8 +11,8 @@ small c =
     let above : c.from-above.result ≤ 400000 = omega arith in
     omega (arith, mul-le-mul low run, mul-le-mul rise above)
 
-pub overflow-add-from : goal.overflow-add-from
-overflow-add-from c = omega (arith, small c)
+pub overflow_add-from : goal.overflow_add-from
+overflow_add-from c = omega (arith, small c)
 
-pub overflow-mul-from-2 : goal.overflow-mul-from-2
-overflow-mul-from-2 c = omega (arith, small c)
+pub overflow_mul-from-2 : goal.overflow_mul-from-2
+overflow_mul-from-2 c = omega (arith, small c)

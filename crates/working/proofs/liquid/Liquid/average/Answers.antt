@@ -10,7 +10,7 @@ use Rattle.working.specs.declared.element.CountingElement.{CountingElement}
 use Rattle.working.proofs.Layers.{nothing, Summed, liquid_parts, sum_above, Layer, layer_between, layer_last, summed_more}
 use Rattle.working.proofs.Averaged.{weights_total, average_least, average_most}
 use Rattle.working.proofs.liquid.Liquid.average.Goals as goal
-use Rattle.working.proofs.liquid.Liquid.average.Goals.{then-i-count, else-i-count, After-from-in-loop-i, After-product-sum, After-from-weights, After-rounded-signed-quotient}
+use Rattle.working.proofs.liquid.Liquid.average.Goals.{then-i-count, else-i-count, After-from-in-loop-i, After-product-sum, After-from-weights, After-rounded_signed_quotient}
 
 pub loop-i-init : goal.loop-i-init
 loop-i-init c =
@@ -19,15 +19,15 @@ loop-i-init c =
     let below = parts.water_below in
     (omega (arith, ints), parts.laid, omega arith, omega arith, record { least = omega (arith, ints); most = omega (arith, ints) })
 
-pub overflow-add-to-then-i-count : goal.overflow-add-to-then-i-count
-overflow-add-to-then-i-count c =
+pub overflow_add-to-then-i-count : goal.overflow_add-to-then-i-count
+overflow_add-to-then-i-count c =
     let self = c.args.self.now in
     let parts = liquid_parts self.elements.now self.water self.level self.right in
     let most = parts.level_most in
     omega (arith, (layer_between self.elements.now c.loop-i.i c.loop-i.from self.level c.loop-i.invariant.1 c.if-i-count.true).within)
 
-pub overflow-sub-to : goal.overflow-sub-to
-overflow-sub-to c =
+pub overflow_sub-to : goal.overflow_sub-to
+overflow_sub-to c =
     let self = c.args.self.now in
     elim c.if-i-count.branch [
       | then-i-count w ↦ omega (arith, w.to-is, (layer_between self.elements.now c.loop-i.i c.loop-i.from self.level c.loop-i.invariant.1 w.if-i-count.true).rises)
@@ -56,8 +56,8 @@ product-sum-requires c =
     let m = g.most in
     let p = c.from.ensures in
     let q = c.from-in-loop-i.ensures in
-    let f : SFits w64 c.from.result = record { sfits = c.from.type-inv } in
-    let h : SFits w64 c.from-in-loop-i.result = record { sfits = c.from-in-loop-i.type-inv } in
+    let f : SFits w64 c.from.result = record { sfits = c.from.type_inv } in
+    let h : SFits w64 c.from-in-loop-i.result = record { sfits = c.from-in-loop-i.type_inv } in
     let weight : nat_abs c.from.result ≤ 800000 = omega (arith, ints) in
     let heat : nat_abs c.from-in-loop-i.result ≤ 15000 = omega (arith, ints) in
     simp to_z-of_z (le_trans (mul-le-mul weight heat) (lit≤ tt))
@@ -75,13 +75,13 @@ added c =
     let low = 2 * self.water in
     let to = c.if-i-count.to in
     let t = (get_or self.elements.now c.loop-i.i nothing).hundredths in
-    let here = layer (goal.at.overflow-add-sum c).After-from-in-loop-i in
+    let here = layer (goal.at.overflow_add-sum c).After-from-in-loop-i in
     let g = here.good in
     let l = g.least in
     let m = g.most in
     let small : SFits w32 t = omega (arith, ints) in
-    let f : SFits w64 c.from.result = record { sfits = c.from.type-inv } in
-    let h : SFits w64 c.from-in-loop-i.result = record { sfits = c.from-in-loop-i.type-inv } in
+    let f : SFits w64 c.from.result = record { sfits = c.from.type_inv } in
+    let h : SFits w64 c.from-in-loop-i.result = record { sfits = c.from-in-loop-i.type_inv } in
     let weight = c.from.ensures in
     let heat : c.from-in-loop-i.result ≡ t = simp to_z-of_z at c.from-in-loop-i.ensures in
     let times : c.product-sum.result ≡ c.from.result *ℤ c.from-in-loop-i.result = simp to_z-of_z at c.product-sum.ensures in
@@ -94,9 +94,9 @@ added c =
     let top = sum.most in
     record { here = here; value = value; sum = sum; fits = omega (arith, ints) }
 
-pub overflow-add-sum : goal.overflow-add-sum
-overflow-add-sum c =
-    let f : SFits w64 c.product-sum.result = record { sfits = c.product-sum.type-inv } in
+pub overflow_add-sum : goal.overflow_add-sum
+overflow_add-sum c =
+    let f : SFits w64 c.product-sum.result = record { sfits = c.product-sum.type_inv } in
     let same = c.loop-i.sum_is in
     simp (to_z-of_z, same) (added c).ranges
 
@@ -106,7 +106,7 @@ loop-i-preserved c =
     let es = self.elements.now in
     let a = added c in
     let here = a.here in
-    let f : SFits w64 c.product-sum.result = record { sfits = c.product-sum.type-inv } in
+    let f : SFits w64 c.product-sum.result = record { sfits = c.product-sum.type_inv } in
     let g = a.fits in
     let same = c.loop-i.sum_is in
     let before : c.loop-i.sum +ℤ sum_above c.loop-i.from (drop c.loop-i.i es) self.level ≡ sum_above (2 * self.water) es self.level = simp same at c.loop-i.invariant.0 in
@@ -152,8 +152,8 @@ whole c =
       most = omega (arith, ints);
     }
 
-pub overflow-mul-sum : goal.overflow-mul-sum
-overflow-mul-sum c =
+pub overflow_mul-sum : goal.overflow_mul-sum
+overflow_mul-sum c =
     let w = whole c in
     let same = c.loop-i.sum_is in
     let few = w.few in
@@ -162,24 +162,24 @@ overflow-mul-sum c =
     let fits : SFits w64 (pos 100000 *ℤ c.loop-i.sum) = omega (arith, ints) in
     simp same fits
 
-pub rounded-signed-quotient-requires : goal.rounded-signed-quotient-requires
-rounded-signed-quotient-requires c = (whole c).some
+pub rounded_signed_quotient-requires : goal.rounded_signed_quotient-requires
+rounded_signed_quotient-requires c = (whole c).some
 
-quotient : (c : goal.After-rounded-signed-quotient) → c.rounded-signed-quotient.result ≡ rounded (pos 100000 *ℤ c.loop-i.sum) c.from-weights.result
+quotient : (c : goal.After-rounded_signed_quotient) → c.rounded_signed_quotient.result ≡ rounded (pos 100000 *ℤ c.loop-i.sum) c.from-weights.result
 quotient c =
-    let w = whole (goal.at.invariant-of-result c).After-from-weights in
+    let w = whole (goal.at.invariant_of-result c).After-from-weights in
     let same = c.loop-i.sum_is in
     let few = w.few in
     let l = w.least in
     let m = w.most in
     let fits : SFits w64 (pos 100000 *ℤ c.loop-i.sum) = omega (arith, ints) in
-    simp (same, to_z-of_z) at c.rounded-signed-quotient.ensures
+    simp (same, to_z-of_z) at c.rounded_signed_quotient.ensures
 
-pub invariant-of-result : goal.invariant-of-result
-invariant-of-result c =
-    let w = whole (goal.at.invariant-of-result c).After-from-weights in
-    let r = c.rounded-signed-quotient.result in
-    let f : SFits w64 r = record { sfits = c.rounded-signed-quotient.type-inv } in
+pub invariant_of-result : goal.invariant_of-result
+invariant_of-result c =
+    let w = whole (goal.at.invariant_of-result c).After-from-weights in
+    let r = c.rounded_signed_quotient.result in
+    let f : SFits w64 r = record { sfits = c.rounded_signed_quotient.type_inv } in
     let value = quotient c in
     let l = average_least 100000 c.from-weights.result coldest_good c.loop-i.sum w.some w.least in
     let m = average_most 100000 c.from-weights.result warmest_good c.loop-i.sum w.some w.most in
@@ -190,10 +190,10 @@ invariant-of-result c =
 pub returns : goal.returns
 unfolding average
 returns c =
-    let after = (goal.at.returns c).After-rounded-signed-quotient in
+    let after = (goal.at.returns c).After-rounded_signed_quotient in
     let w = whole (goal.at.returns c).After-from-weights in
     let self = c.args.self.now in
     let sum = sum_above (2 * self.water) self.elements.now self.level in
-    let f : SFits w64 c.rounded-signed-quotient.result = record { sfits = c.rounded-signed-quotient.type-inv } in
-    let value : c.rounded-signed-quotient.result ≡ rounded (pos 100000 *ℤ c.loop-i.sum) c.from-weights.result = quotient after in
+    let f : SFits w64 c.rounded_signed_quotient.result = record { sfits = c.rounded_signed_quotient.type_inv } in
+    let value : c.rounded_signed_quotient.result ≡ rounded (pos 100000 *ℤ c.loop-i.sum) c.from-weights.result = quotient after in
     simp to_z-of_z (value ∙ ap (λ (x : ℤ). rounded (pos 100000 *ℤ x) c.from-weights.result) w.value ∙ ap (λ (n : ℕ). rounded (pos 100000 *ℤ sum) n) w.weight)

@@ -15,8 +15,8 @@ reached c =
     let past : Row → ℕ = λ row. row.height + 1 in
     ap past item.1 ∙ last_is_reach rows c.in-Some.row.now some ∙ ap rows_reach c.rows.ensures.value
 
-pub overflow-add-result : goal.overflow-add-result
-overflow-add-result c = omega (arith, reached c, strapped_laws.reach_most c.args.self.now)
+pub overflow_add-result : goal.overflow_add-result
+overflow_add-result c = omega (arith, reached c, strapped_laws.reach_most c.args.self.now)
 
 pub returns-in-Some : goal.returns-in-Some
 returns-in-Some c = reached c

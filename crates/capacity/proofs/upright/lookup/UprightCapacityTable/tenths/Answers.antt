@@ -10,5 +10,5 @@ returns c =
     let v = upright_volume c.args.self.now c.args.height in
     let x = c.from-2.result in
     let y = c.from-3.result in
-    let e : c.rounded-quotient.result ≡ tenths_of v = tenths_told v (10 * x * y) (x * y) 10000 c.rounded-quotient.result c.rounded-quotient.ensures (omega arith) (cc) refl refl in
+    let e : c.rounded_quotient.result ≡ tenths_of v = tenths_told v (10 * x * y) (x * y) 10000 c.rounded_quotient.result c.rounded_quotient.ensures (omega arith) (cc) refl refl in
     grind (arith, nat_tests, e)

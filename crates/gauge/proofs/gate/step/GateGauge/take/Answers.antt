@@ -7,8 +7,8 @@ use Rattle.gauge.specs.Gates.{state_stays_right, same_gate, stepped}
 use Rattle.gauge.specs.Samples.{first_wrong}
 use Rattle.gauge.proofs.gate.step.GateGauge.take.Goals as goal
 
-pub invariant-of-self : goal.invariant-of-self
-invariant-of-self g c =
+pub invariant_of-self : goal.invariant_of-self
+invariant_of-self g c =
     let held = c.args.self.now in
     let below = c.take.new.self in (
       subst (λ (s : State). state_right s ≡ true) (sym c.step.ensures)
@@ -24,7 +24,7 @@ returns g c =
     let s = c.args.sample in
     let state_of : Result ℕ Refusal → State = state_after held.allowance held.retries held.state in
     let says = m.says in
-    let passed = ap is_some (sym c.first_wrong.ensures) ∙ sym c.if-is-some.ensures in
+    let passed = ap is_some (sym c.first_wrong.ensures) ∙ sym c.if-is_some.ensures in
     same_gate _ (stepped m held s) c.take.ensures refl refl
     (c.step.ensures ∙ ap state_of (c.tell-below.ensures ∙ ap says c.take.ensures))
     ∙ sym (cond-false (is_some (first_wrong s)) held (stepped m held s) passed)

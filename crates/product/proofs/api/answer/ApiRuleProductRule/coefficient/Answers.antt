@@ -30,8 +30,8 @@ inside c = subst (λ (r : ℕ). Within c.in-Some.line r) (sym c.from-r.ensures) 
 pub numerator-requires : goal.numerator-requires
 numerator-requires c = (inside c, omega (arith, c.from-r.ensures))
 
-pub rounded-quotient-requires : goal.rounded-quotient-requires
-rounded-quotient-requires c = square_some c.from-r.result (some (goal.at.rounded-quotient-requires c).After-from-r)
+pub rounded_quotient-requires : goal.rounded_quotient-requires
+rounded_quotient-requires c = square_some c.from-r.result (some (goal.at.rounded_quotient-requires c).After-from-r)
 
 pub returns : goal.returns
 returns c =
@@ -40,7 +40,7 @@ returns c =
     let density = c.args.density in
     let line = c.in-Some.line in
     let r = c.from-r.result in
-    let value = api_value line r c.numerator.result c.rounded-quotient.result (square_some r (some before)) (inside before) c.numerator.ensures c.rounded-quotient.ensures in
+    let value = api_value line r c.numerator.result c.rounded_quotient.result (square_some r (some before)) (inside before) c.numerator.ensures c.rounded_quotient.ensures in
     let on : line_coefficient line r ≡ api_coefficient rule density = ap (λ (m : ℕ). line_coefficient line m) c.from-r.ensures ∙ ap (λ (o : Option Line). coefficient_on o density) (sym (found before)) in
     let told : ℕ → Result ℕ Refusal = λ k. Ok k in
     ap told (value ∙ ap million_millionths on)
