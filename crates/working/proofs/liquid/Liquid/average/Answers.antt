@@ -86,7 +86,7 @@ added c =
     let heat : c.from-in-loop-i.result ≡ t = simp to_z-of_z at c.from-in-loop-i.ensures in
     let times : c.product-sum.result ≡ c.from.result *ℤ c.from-in-loop-i.result = simp to_z-of_z at c.product-sum.ensures in
     let value : c.product-sum.result ≡ pos (to - c.loop-i.from) *ℤ t = times ∙ ap (λ (x : ℤ). x *ℤ c.from-in-loop-i.result) weight ∙ ap (λ (x : ℤ). pos (to - c.loop-i.from) *ℤ x) heat in
-    let so_far : Summed low c.loop-i.from c.loop-i.sum = subst (λ (x : ℤ). Summed low c.loop-i.from x) c.loop-i.sum_is c.loop-i.invariant.4 in
+    let so_far : Summed low c.loop-i.from c.loop-i.sum = subst (λ (x : ℤ). Summed low c.loop-i.from x) c.loop-i.sum-is c.loop-i.invariant.4 in
     let sum : Summed low to (c.loop-i.sum +ℤ c.product-sum.result) = subst (λ (x : ℤ). Summed low to (c.loop-i.sum +ℤ x)) (sym value) (summed_more low c.loop-i.from to c.loop-i.sum t c.loop-i.invariant.2 here.rises g so_far) in
     let most = (liquid_parts self.elements.now self.water self.level self.right).level_most in
     let within = here.within in
@@ -97,7 +97,7 @@ added c =
 pub overflow_add-sum : goal.overflow_add-sum
 overflow_add-sum c =
     let f : SFits w64 c.product-sum.result = record { sfits = c.product-sum.type_inv } in
-    let same = c.loop-i.sum_is in
+    let same = c.loop-i.sum-is in
     simp (to_z-of_z, same) (added c).ranges
 
 pub loop-i-preserved : goal.loop-i-preserved
@@ -108,7 +108,7 @@ loop-i-preserved c =
     let here = a.here in
     let f : SFits w64 c.product-sum.result = record { sfits = c.product-sum.type_inv } in
     let g = a.fits in
-    let same = c.loop-i.sum_is in
+    let same = c.loop-i.sum-is in
     let before : c.loop-i.sum +ℤ sum_above c.loop-i.from (drop c.loop-i.i es) self.level ≡ sum_above (2 * self.water) es self.level = simp same at c.loop-i.invariant.0 in
     let value = a.value in
     let adds = here.adds in
@@ -135,7 +135,7 @@ whole c =
     let parts = liquid_parts es self.water self.level self.right in
     let below = parts.water_below in
     let top = parts.level_most in
-    let same = c.loop-i.sum_is in
+    let same = c.loop-i.sum-is in
     let before : c.loop-i.sum +ℤ sum_above c.loop-i.from (drop c.loop-i.i es) self.level ≡ sum_above (2 * self.water) es self.level = simp same at c.loop-i.invariant.0 in
     let none : sum_above c.loop-i.from (drop c.loop-i.i es) self.level ≡ pos 0 = at_drop_all (λ (rest : List CountingElement). sum_above c.loop-i.from rest self.level) es c.loop-i.i c.loop-i-test.false in
     let sum : Summed (2 * self.water) c.loop-i.from c.loop-i.sum = subst (λ (x : ℤ). Summed (2 * self.water) c.loop-i.from x) same c.loop-i.invariant.4 in
@@ -155,7 +155,7 @@ whole c =
 pub overflow_mul-sum : goal.overflow_mul-sum
 overflow_mul-sum c =
     let w = whole c in
-    let same = c.loop-i.sum_is in
+    let same = c.loop-i.sum-is in
     let few = w.few in
     let l = w.least in
     let m = w.most in
@@ -168,7 +168,7 @@ rounded_signed_quotient-requires c = (whole c).some
 quotient : (c : goal.After-rounded_signed_quotient) → c.rounded_signed_quotient.result ≡ rounded (pos 100000 *ℤ c.loop-i.sum) c.from-weights.result
 quotient c =
     let w = whole (goal.at.invariant_of-result c).After-from-weights in
-    let same = c.loop-i.sum_is in
+    let same = c.loop-i.sum-is in
     let few = w.few in
     let l = w.least in
     let m = w.most in

@@ -10,12 +10,12 @@ use Rattle.gauge.proofs.gate.step.GateGauge.take.Goals as goal
 pub invariant_of-self : goal.invariant_of-self
 invariant_of-self g c =
     let held = c.args.self.now in
-    let below = c.take.new.self in (
-      subst (λ (s : State). state_right s ≡ true) (sym c.step.ensures)
+    let below = c.take.new.self in
+    record {
+      right = subst (λ (s : State). state_right s ≡ true) (sym c.step.ensures)
           (state_stays_right held.allowance held.retries held.state c.tell-below.result held.right
-          (λ n e. g.G.Gauge.meaning.laws.level_most below n (sym c.tell-below.ensures ∙ e))),
-      tt,
-    )
+          (λ n e. g.G.Gauge.meaning.laws.level_most below n (sym c.tell-below.ensures ∙ e)));
+    }
 
 pub returns : goal.returns
 returns g c =
