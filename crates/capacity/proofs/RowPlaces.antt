@@ -1,12 +1,11 @@
 -- Sound rows by their places: which rise, which is the last, and on which line a height lies.
-use Rattle.std.proofs.Common.{◌≡◌, ℕ, zero, suc, ◌+◌, ◌-◌, ◌<◌, ◌≤◌, true, leb, List, [], ◌∷◌, length, get_or, sym, refl, ap, ◌∙◌, not-suc-le-zero, arith}
+use Rattle.std.proofs.Common.{◌≡◌, ℕ, zero, suc, ◌+◌, ◌-◌, ◌<◌, ◌≤◌, true, leb, List, [], ◌∷◌, length, get_or, refl, ◌∙◌, not-suc-le-zero, arith}
 use native.Mathlib.Numerals.{unary_clauses}
-use Rattle.std.proofs.lemmas.Bool.{le-leb, lt-leb, cond-true, cond-false, ltb-false, or_parts}
+use Rattle.std.proofs.lemmas.Bool.{le-leb, lt-leb, cond-true, cond-false}
 use Rattle.std.proofs.lemmas.Bool.Decides.{nat_tests}
-use Rattle.measure.specs.Limits.{highest_level}
 use Rattle.capacity.specs.declared.row.Row.{Row}
 use Rattle.capacity.specs.Rows.{sound, rows_reach, line, volume_above, rows_volume}
-use Rattle.capacity.specs.RowLaws.{Rises, Clear, next_rises, FirstSound, first_sound}
+use Rattle.capacity.specs.RowLaws.{Rises, Clear, next_rises, first_sound}
 use Rattle.capacity.specs.RowSearch.{row_at, Upper, Spans}
 
 -- what stands where the rows have ended

@@ -1,5 +1,5 @@
 -- Tenths of a volume that is written as one natural number over another.
-use Rattle.std.proofs.Common.{◌≡◌, ℕ, ◌+◌, ◌*◌, ℤ, pos, nat_abs, sym, ap, ◌∙◌, arith}
+use Rattle.std.proofs.Common.{◌≡◌, ℕ, ◌*◌, ℤ, pos, nat_abs, sym, ap, ◌∙◌, arith}
 use borrow.Author.Differences.{ints}
 use Rattle.measure.specs.Fractions.{Fraction, ten, numerator, ◌⊗◌}
 use Rattle.measure.specs.Rounding.{nearest, rounded}

@@ -1,5 +1,5 @@
 -- The meanings of the layers that stand above any table.
-use Rattle.std.specs.Prelude.{ℕ, ◌+◌, ◌-◌, ◌<◌, ◌≤◌, min}
+use Rattle.std.specs.Prelude.{ℕ, ◌+◌, ◌-◌, min}
 use Rattle.std.proofs.Common.{arith}
 use Rattle.measure.specs.Limits.{highest_level, largest_reach}
 use Rattle.measure.specs.Fractions.{Fraction}

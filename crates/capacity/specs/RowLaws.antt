@@ -1,13 +1,13 @@
 -- What examination shows of rows, and what the volume between such rows keeps.
-use Rattle.std.specs.Prelude.{◌≡◌, ℕ, zero, suc, ◌+◌, ◌-◌, ◌*◌, ◌<◌, ◌≤◌, Bool, true, false, cond, List, [], ◌∷◌, Some, None, Option, nat_le, refl}
+use Rattle.std.specs.Prelude.{◌≡◌, ℕ, ◌+◌, ◌-◌, ◌*◌, ◌<◌, ◌≤◌, Bool, true, false, cond, List, [], ◌∷◌, Option, nat_le, refl}
 use Rattle.std.proofs.Common.{sym, ap, subst, subst₂, mul-le-mul_left, mul-le-mul_right, arith}
 use Rattle.std.proofs.lemmas.Bool.{or_parts, not-false, leb-true, leb-false, ltb-false, eqb-true, cond_both, false≢true}
 use Rattle.measure.specs.declared.refusal.Refusal.{Refusal}
 use Rattle.measure.specs.Limits.{highest_level, largest_reach, largest_litres}
-use Rattle.measure.specs.Fractions.{Fraction, natural, none, over, per, ◌⊕◌, ◌⊑◌}
+use Rattle.measure.specs.Fractions.{Fraction, natural, over, ◌⊕◌, ◌⊑◌}
 use Rattle.measure.specs.FractionLaws.{per_is, ⊑_refl, ⊑_trans, ⊕-mono}
 use Rattle.capacity.specs.declared.row.Row.{Row}
-use Rattle.capacity.specs.Rows.{refused_if, examined_above, examined_rows, examined, nothing_found, sound, rows_reach, line, volume_above, rows_volume}
+use Rattle.capacity.specs.Rows.{refused_if, examined_above, nothing_found, sound, rows_reach, line, volume_above}
 
 -- ---- what examination shows
 

@@ -1,12 +1,12 @@
 -- The meaning of an upright tank: h × q / 10,000 litres at the height h, for q litres to the metre.
-use Rattle.std.specs.Prelude.{ℕ, ◌+◌, ◌*◌, ◌<◌, ◌≤◌, cond, pos, Some, None, Option, nat_lt}
+use Rattle.std.specs.Prelude.{ℕ, ◌+◌, ◌*◌, ◌≤◌, cond, pos, Some, None, Option, nat_lt}
 use Rattle.std.proofs.Common.{mul-le-mul, mul-le-mul_right, arith, lit<}
 use Rattle.measure.specs.declared.refusal.Refusal.{Refusal}
 use Rattle.measure.specs.declared.refusal.Cause.TheVariants.{UprightLimit}
 use Rattle.measure.specs.Refusals.{refusal}
-use Rattle.measure.specs.Limits.{highest_level, largest_litres}
+use Rattle.measure.specs.Limits.{highest_level}
 use Rattle.capacity.specs.Limits.{most_litres_per_metre}
-use Rattle.measure.specs.Fractions.{Fraction, over, none, natural, ◌⊑◌}
+use Rattle.measure.specs.Fractions.{Fraction, over}
 use Rattle.capacity.specs.declared.upright.Upright.{Upright}
 use Rattle.capacity.specs.Tables.{TableMeaning, TableLaws}
 

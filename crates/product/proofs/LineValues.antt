@@ -1,14 +1,14 @@
 -- What the whole-number working of a line answers is its exact coefficient, rounded.
-use Rattle.std.proofs.Common.{◌≡◌, ℕ, ◌+◌, ◌-◌, ◌*◌, ◌<◌, ◌≤◌, Bool, true, false, ◌&&◌, leb, ℤ, pos, ◌*ℤ◌, nat_abs, is_some, Some, None, Option, sym, refl, ap, ◌∙◌, subst, arith}
+use Rattle.std.proofs.Common.{◌≡◌, ℕ, ◌+◌, ◌-◌, ◌*◌, ◌<◌, ◌≤◌, true, ◌&&◌, leb, ℤ, pos, ◌*ℤ◌, nat_abs, is_some, Some, Option, sym, ap, ◌∙◌, subst, arith}
 use borrow.Author.Differences.{ints, up, down, product_is}
-use Rattle.std.proofs.lemmas.Bool.{and_parts, leb-true}
-use Rattle.measure.specs.Fractions.{Fraction, natural, over, numerator, ◌⊗◌, ◌≃◌}
+use Rattle.std.proofs.lemmas.Bool.{and_parts}
+use Rattle.measure.specs.Fractions.{natural, over, numerator, ◌⊗◌, ◌≃◌}
 use Rattle.measure.specs.Rounding.{rounded, rounded_fraction}
 use Rattle.product.specs.declared.api.ApiRule.{ApiRule}
 use Rattle.product.specs.declared.api.line.Line.{Line}
 use Rattle.product.specs.Lines.{line_for}
 use Rattle.product.specs.Rules.{greatest_density, million_millionths}
-use Rattle.product.specs.ApiRules.{front, rise, fall, lowest, highest, plain, line_coefficient, line_is, bounded_on, alike, right_at, right, Within, within, bounded_there}
+use Rattle.product.specs.ApiRules.{front, rise, fall, lowest, highest, plain, line_coefficient, line_is, bounded_on, alike, right, Within, within, bounded_there}
 use Rattle.product.proofs.Rounded.{rounded_same}
 
 spread : (f u d sq n : ℕ) → n + d * sq ≡ f + u * sq

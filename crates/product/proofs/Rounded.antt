@@ -1,5 +1,5 @@
 -- The same number is rounded alike, however it is written.
-use Rattle.std.proofs.Common.{◌≡◌, ℕ, ℤ, pos, nat_abs, ◌≤ℤ◌, ap, ◌∙◌, arith}
+use Rattle.std.proofs.Common.{◌≡◌, ℕ, pos, nat_abs, ap, ◌∙◌, arith}
 use borrow.Author.Differences.{ints}
 use Rattle.measure.specs.Fractions.{Fraction, whole, ◌≃◌}
 use Rattle.measure.specs.FractionLaws.{≃→⊑, ≃-sym}

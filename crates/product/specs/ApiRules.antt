@@ -1,6 +1,6 @@
 -- The meaning of the API rules: from the line of constants that covers the density r,
 -- 10^12 times the coefficient is 10^8 × (4 × K0 + 2 × K1 × r) / r² + 10^4 × K2.
-use Rattle.std.specs.Prelude.{◌≡◌, ℕ, zero, suc, ◌+◌, ◌-◌, ◌*◌, ◌<◌, ◌≤◌, Bool, true, false, cond, ◌&&◌, ℤ, pos, ◌*ℤ◌, is_some, Some, None, Option, nat_le, unsigned_abs, refl}
+use Rattle.std.specs.Prelude.{◌≡◌, ℕ, zero, suc, ◌+◌, ◌*◌, ◌<◌, ◌≤◌, Bool, true, false, ◌&&◌, pos, ◌*ℤ◌, is_some, Some, None, Option, nat_le, unsigned_abs, refl}
 use Rattle.std.proofs.Common.{sym, ap, subst, not-suc-le-zero, mul-pos, arith, lit<, lit≤, ⊎_elim}
 use borrow.Author.Differences.{up, down, product_is}
 use Rattle.std.proofs.lemmas.Bool.{and_parts, leb-true, cases_lt}

@@ -1,5 +1,5 @@
 -- The meaning of a fixed coefficient: value × 10^-7 per °C for every density.
-use Rattle.std.specs.Prelude.{ℕ, ◌≤◌, cond, pos, Some, None, Option, nat_lt}
+use Rattle.std.specs.Prelude.{ℕ, cond, pos, Some, None, Option, nat_lt}
 use Rattle.std.proofs.Common.{arith, lit<, lit≤}
 use Rattle.measure.specs.declared.refusal.Refusal.{Refusal}
 use Rattle.measure.specs.declared.refusal.Cause.TheVariants.{CoefficientLimit}

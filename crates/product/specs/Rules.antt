@@ -1,5 +1,5 @@
 -- What a product rule means, keeps and answers.
-use Rattle.std.specs.Prelude.{ℕ, ◌<◌, ◌≤◌, Bool, cond, ◌&&◌, pos, Ok, Err, Result, nat_le, unsigned_abs}
+use Rattle.std.specs.Prelude.{ℕ, ◌≤◌, Bool, cond, ◌&&◌, pos, Ok, Err, Result, nat_le, unsigned_abs}
 use Rattle.std.proofs.Common.{lit<}
 use Rattle.measure.specs.declared.refusal.Refusal.{Refusal}
 use Rattle.measure.specs.declared.refusal.Cause.TheVariants.{DensityOutside}

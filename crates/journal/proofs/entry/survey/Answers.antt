@@ -18,12 +18,12 @@ with_date text date e =
 pub returns-in-Some : goal.returns-in-Some
 returns-in-Some c =
     let text = c.args.words.rest.now in
-    let date = c.in-ok-date.date in
+    let date = c.in_ok-date.date in
     let found = c.in-Some.ensures in
-    let read = with_date text date (sym c.number-word.ensures.value ∙ c.in-ok-date.was) in
+    let read = with_date text date (sym c.number_word.ensures.value ∙ c.in_ok-date.was) in
     let made = has_shape date c.in-Some.shape.now (after_word (after_word text)) found.word.1 in
     let told = c.shaped_survey.ensures in
-    let after = c.number-word.ensures.rest in
+    let after = c.number_word.ensures.rest in
     let word = found.word.0 in
     let rest = found.rest in
     cc

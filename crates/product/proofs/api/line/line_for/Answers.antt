@@ -1,4 +1,4 @@
-use Rattle.std.proofs.Common.{◌≡◌, ◌+◌, Bool, cond, get_or, drop, pos, Some, Option, sym, ap, ◌∙◌}
+use Rattle.std.proofs.Common.{◌+◌, Bool, cond, get_or, drop, pos, Some, Option, sym, ap, ◌∙◌}
 use Rattle.std.proofs.lemmas.List.{at_drop_more}
 use Rattle.product.specs.declared.api.ApiRule.TheVariants.{Crude}
 use Rattle.product.specs.declared.api.line.Line.{Line}

@@ -98,7 +98,7 @@ pub overflow_add-sum : goal.overflow_add-sum
 overflow_add-sum c =
     let f : SFits w64 c.product-sum.result = record { sfits = c.product-sum.type_inv } in
     let same = c.loop-i.sum-is in
-    simp (to_z-of_z, same) (added c).ranges
+    simp (to_z-of_z, same) (added c).fits
 
 pub loop-i-preserved : goal.loop-i-preserved
 loop-i-preserved c =
@@ -185,7 +185,7 @@ invariant_of-result c =
     let m = average_most 100000 c.from-weights.result warmest_good c.loop-i.sum w.some w.most in
     let low : true ≡ le_z (negsuc 399999999) r = omega (arith, ints) in
     let high : true ≡ le_z r (pos 1500000000) = omega (arith, ints) in
-    (simp to_z-of_z (and_from _ _ (sym low) (sym high)), tt)
+    record { within = simp to_z-of_z (and_from _ _ (sym low) (sym high)) }
 
 pub returns : goal.returns
 unfolding average

@@ -1,14 +1,12 @@
-use Rattle.std.proofs.Common.{◌≡◌, ℕ, ◌-◌, ◌*◌, ◌<◌, ◌≤◌, true, ◌&&◌, leb, pos, Some, Ok, Err, Option, Result, sym, refl, ap, ◌∙◌, subst, arith}
+use Rattle.std.proofs.Common.{◌≡◌, ℕ, ◌<◌, true, ◌&&◌, leb, pos, Some, Ok, Err, Option, Result, sym, ap, ◌∙◌, subst, arith}
 use Rattle.std.proofs.lemmas.Bool.{and_parts, leb-true, cond-true}
 use Rattle.product.specs.declared.api.line.Line.{Line}
 use Rattle.measure.specs.declared.refusal.Refusal.{Refusal}
 use Rattle.measure.specs.declared.refusal.Cause.TheVariants.{DensityOutside}
 use Rattle.measure.specs.Refusals.{refusal}
-use Rattle.measure.specs.Rounding.{rounded}
-use Rattle.product.specs.declared.api.ApiRule.{ApiRule}
 use Rattle.product.specs.Lines.{line_for}
 use Rattle.product.specs.Rules.{million_millionths}
-use Rattle.product.specs.ApiRules.{rise, fall, lowest, highest, range_least, square_some, coefficient_on, api_coefficient, line_coefficient, Within}
+use Rattle.product.specs.ApiRules.{lowest, highest, range_least, square_some, coefficient_on, api_coefficient, line_coefficient, Within}
 use Rattle.product.proofs.LineValues.{api_value, found_covers, found_within}
 use Rattle.product.proofs.api.answer.ApiRuleProductRule.coefficient.Goals as goal
 use Rattle.product.proofs.api.answer.ApiRuleProductRule.coefficient.Goals.{In-Some, After-from-r}
