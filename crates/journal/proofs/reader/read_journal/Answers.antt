@@ -9,7 +9,7 @@ use Rattle.journal.specs.Journals.{journal_of, entries_from}
 use Rattle.journal.specs.Words.{lines_of}
 use Rattle.journal.proofs.Lines.{after_entries, following, with_entry, one_more, no_more, read_one, read_wrong, read_lines, cut_line, none_following, some_following}
 use Rattle.journal.proofs.reader.read_journal.Goals as goal
-use Rattle.journal.proofs.reader.read_journal.Goals.{After-place_line, In-Ok, Joined-entry, in-Some+in_ok-push, in_default}
+use Rattle.journal.proofs.reader.read_journal.Goals.{After-place_line, In-Ok, Joined-entry, in-Some+in_ok-push-in-Ok, in_default}
 
 -- the journal is what was gathered, and then what the line at hand and those after it say
 at_hand : (c : goal.After-place_line) → entries_from 1 Start (lines_of c.args.text.now) ≡ after_entries (vec_items c.loop-entry.entries) (entries_from c.loop-entry.line c.loop-entry.stage (c.split_at.result.0.now ∷ following c.split_at.result.1.now))
@@ -18,8 +18,8 @@ at_hand c =
     c.loop-entry.invariant.0
     ∙ ap told (cut_line c.loop-entry.rest.now c.split_at.result.0.now c.split_at.result.1.now c.front.result c.front.ensures.value c.split_at.ensures.front c.split_at.ensures.back)
 
-pub returns-in_err-push : goal.returns-in_err-push
-returns-in_err-push c = let p = err_from_is_err_and c.from_residual.result c.from_residual.ensures.1 in rw (p.1, p.2) tt
+pub returns-in_err-push-in-Ok : goal.returns-in_err-push-in-Ok
+returns-in_err-push-in-Ok c = let p = err_from_is_err_and c.from_residual.result c.from_residual.ensures.1 in rw (p.1, p.2) tt
 
 pub returns-in-Err : goal.returns-in-Err
 returns-in-Err c =
@@ -33,7 +33,7 @@ gathered : (c : goal.Joined-entry) → vec_items c.match-entry.entries ≡ with_
 gathered c =
     let added : Option Entry → List NumberedEntry = with_entry (vec_items c.loop-entry.entries) c.loop-entry.line in
     elim c.match-entry.branch [
-      | in-Some+in_ok-push w ↦ ap vec_items w.entries-is ∙ w.in_ok-push.ensures.items ∙ sym (ap added w.in-Some.is)
+      | in-Some+in_ok-push-in-Ok w ↦ ap vec_items w.entries-is ∙ w.in_ok-push-in-Ok.ensures.items ∙ sym (ap added w.in-Some.is)
       | in_default w ↦ ap vec_items w.entries-is ∙ sym (ap added w.in_default.is)
     ]
 

@@ -6,7 +6,7 @@ use Rattle.probe.specs.Elements.{counted, new_element}
 use Rattle.probe.specs.Counted.{counting, counting_word, counted_before, bit_of}
 use Rattle.probe.proofs.Words.{set_bit, bit_more, word_below, word_still_below}
 use Rattle.probe.proofs.counting.selecting.counting_among.Goals as goal
-use Rattle.probe.proofs.counting.selecting.counting_among.Goals.{in-Some, in-default}
+use Rattle.probe.proofs.counting.selecting.counting_among.Goals.{in-Some, in_default}
 
 pub loop-i-preserved : goal.loop-i-preserved
 loop-i-preserved c =
@@ -44,8 +44,8 @@ loop-i-preserved c =
             omega (arith, w.count_is, few),
             ap (length {A = CountingElement}) w.list-is ∙ length-set held c.loop-i.count e ∙ all,
           )
-      | in-default w ↦
-          let missed = w.in-default.is in
+      | in_default w ↦
+          let missed = w.in_default.is in
           let list-now : take c.match-counted.count c.match-counted.list ≡ so_far = simp (w.list-is, w.count_is) in
           let more = bit_more c.loop-i.word i 0 word_after total (sym (ap word-with missed) ∙ word-left) in (
             ap (λ (es : List CountingElement). es ++ after) list-now ∙ sym (ap chosen-with missed) ∙ list_left,

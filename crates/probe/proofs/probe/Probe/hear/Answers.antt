@@ -42,8 +42,8 @@ changed c =
     let now : c.hear.new.self ≡ heard (get_or (fitted_in p) k (new_element 0)) c.args.hundredths = fresh ∙ ap (λ (e : ProbeElement). heard e c.args.hundredths) (sym same) in
     take_set_below p.fitted entries k c.hear.new.self ∙ ap (set (fitted_in p) k) now
 
-pub invariant-of-self : goal.invariant-of-self
-invariant-of-self c =
+pub invariant_of-self : goal.invariant_of-self
+invariant_of-self c =
     let p = c.args.self.now in
     let entries = p.entries.list in
     let held = entered p in
