@@ -18,7 +18,7 @@ loop-numbered-preserved c =
     let first : Option ℕ → Option ℕ = λ found. or_else found (first_height c.args.layer (drop (i + 1) entries)) in
     c.loop-numbered.invariant
     ∙ at_drop_more (first_height c.args.layer) entries i past_end c.loop-numbered-test.true
-    ∙ ap first (sym c.height_of.ensures ∙ c.in-default.is)
+    ∙ ap first (sym c.height_of.ensures ∙ c.in_default.is)
 
 pub returns : goal.returns
 returns c =
