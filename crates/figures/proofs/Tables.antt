@@ -2,12 +2,9 @@
 use Rattle.std.proofs.Common.{◌≡◌, ℕ, ◌+◌, ◌-◌, List, Result, sym, subst}
 use Rattle.measure.specs.declared.refusal.Refusal.{Refusal}
 use Rattle.capacity.specs.declared.row.Row.{Row}
-use Rattle.capacity.specs.declared.raised_datum.RaisedDatum.{RaisedDatum}
-use Rattle.capacity.specs.declared.strapped.Strapped.{Strapped}
-use Rattle.capacity.specs.Layers.{counted_rise, raised_meaning}
+use Rattle.capacity.specs.Layers.{counted_rise}
 use Rattle.capacity.specs.Rows.{sealed, rows_reach, rows_volume}
-use Rattle.capacity.specs.StrappedTables.{strapped_meaning}
-use Rattle.capacity.specs.Tables.{answer_of, answered}
+use Rattle.capacity.specs.Tables.{answer_of}
 use Rattle.figures.specs.Figures.{Holds, dip, dip_under_datum}
 
 pub by_rows : (rows : List Row) (h : ℕ) (answer : Result ℕ Refusal) → answer_of (rows_reach (sealed rows)) (rows_volume (sealed rows)) h ≡ answer → Holds (dip rows h answer)

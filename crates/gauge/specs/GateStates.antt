@@ -1,5 +1,5 @@
 -- What a gate holds, and how that changes with the level below.
-use Rattle.std.specs.Prelude.{ℕ, ◌+◌, ◌-◌, min, max, Bool, true, false, cond, Ok, Err, Result, nat_le, nat_lt}
+use Rattle.std.specs.Prelude.{ℕ, ◌+◌, ◌-◌, min, max, Bool, true, cond, Ok, Err, Result, nat_le, nat_lt}
 use Rattle.measure.specs.Limits.{highest_level}
 use Rattle.measure.specs.declared.refusal.Refusal.{Refusal}
 use Rattle.gauge.specs.declared.gate.state.State.{State}

@@ -1,6 +1,6 @@
 -- The meaning of a gate.
-use Rattle.std.specs.Prelude.{◌≡◌, ℕ, ◌+◌, ◌≤◌, min, Bool, true, false, cond, pos, is_some, Some, None, Ok, Err, Option, Result, nat_le, nat_lt, refl}
-use Rattle.std.proofs.Common.{ap, ◌∙◌, arith}
+use Rattle.std.specs.Prelude.{◌≡◌, ℕ, ◌+◌, ◌≤◌, min, true, cond, pos, is_some, Some, Ok, Err, Result, nat_le, nat_lt, refl}
+use Rattle.std.proofs.Common.{ap, arith}
 use Rattle.std.proofs.Math.Bool.{Bool-set}
 use mathlib.Core.HLevel.{is_prop→PathP}
 use Rattle.std.proofs.lemmas.Bool.{le-leb, leb-true, cond_both, cond-true}

@@ -2,7 +2,6 @@
 use Rattle.std.specs.Prelude.{ℕ, cond, List, [], ◌∷◌, Some, None, Ok, Err, codes, Option, Result}
 use Rattle.std.specs.Option.{ok_or}
 use Rattle.std.specs.Str.{bytes_eq}
-use Rattle.capacity.specs.declared.row.Row.{Row}
 use Rattle.journal.specs.declared.verb.Verb.{Verb}
 use Rattle.journal.specs.declared.verb.Verb.TheVariants.{Survey, Row as RowVerb, Datum as DatumVerb, Limit as LimitVerb, Dip as DipVerb}
 use Rattle.journal.specs.declared.wrong.Wrong.{Wrong}

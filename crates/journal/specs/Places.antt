@@ -4,7 +4,6 @@ use Rattle.journal.specs.declared.entry.Entry.{Entry}
 use Rattle.journal.specs.declared.entry.Entry.TheVariants.{Strapped, Upright, Row, Datum, Limit, Dip}
 use Rattle.journal.specs.declared.place.Stage.{Stage}
 use Rattle.journal.specs.declared.place.Stage.TheVariants.{Start, Rows, Walls, Datum as AfterDatum, Limit as AfterLimit, Dips}
-use Rattle.journal.specs.declared.verb.Verb.{Verb}
 use Rattle.journal.specs.declared.verb.Verb.TheVariants.{Row as RowVerb, Datum as DatumVerb, Limit as LimitVerb, Dip as DipVerb}
 use Rattle.journal.specs.declared.wrong.Wrong.{Wrong}
 use Rattle.journal.specs.declared.wrong.Wrong.TheVariants.{OutOfPlace}

@@ -1,5 +1,5 @@
 -- What a survey says of a tank: why no table can be made of it, or the table's reach and volumes.
-use Rattle.std.specs.Prelude.{◌≡◌, ℕ, ◌+◌, ◌-◌, ◌*◌, ◌<◌, min, cond, Some, None, Ok, Err, Option, Result}
+use Rattle.std.specs.Prelude.{◌≡◌, ℕ, ◌+◌, ◌-◌, ◌*◌, ◌<◌, min, cond, Some, None, Err, Option, Result}
 use Rattle.std.proofs.Common.{lit<}
 use Rattle.measure.specs.declared.refusal.Refusal.{Refusal}
 use Rattle.measure.specs.Fractions.{Fraction, over}

@@ -1,9 +1,7 @@
 -- Examination finds the first wrong thing, and where it finds nothing the rows are right throughout.
-use Rattle.std.proofs.Common.{◌≡◌, ℕ, zero, suc, ◌+◌, ◌<◌, ◌≤◌, Bool, true, false, not, ◌||◌, eqb, ltb, leb, List, [], ◌∷◌, length, drop, pos, Some, None, Option, sym, refl, ap, ◌∙◌, subst, ⊎_elim, not-suc-le-zero, add-one, arith, length-drop, below_none, below_more}
+use Rattle.std.proofs.Common.{◌≡◌, ℕ, zero, suc, ◌+◌, ◌<◌, ◌≤◌, true, false, not, ◌||◌, eqb, ltb, leb, List, [], ◌∷◌, length, drop, Some, None, Option, sym, refl, ap, ◌∙◌, subst, ⊎_elim, add-one, arith, length-drop, below_none, below_more}
 use Rattle.std.proofs.lemmas.Bool.{or_cases, or_parts, not-true, not-false, leb-true, leb-false, ltb-true, ltb-false, eqb-true, eqb-false, cond_both}
 use Rattle.measure.specs.declared.refusal.Refusal.{Refusal}
-use Rattle.measure.specs.declared.refusal.Cause.TheVariants.{RowCount, FirstHeight, RowHeight, RowLitres}
-use Rattle.measure.specs.Refusals.{refusal}
 use Rattle.measure.specs.Limits.{highest_level, largest_litres}
 use Rattle.capacity.specs.declared.row.Row.{Row}
 use Rattle.capacity.specs.Limits.{fewest_rows, most_rows}

@@ -1,5 +1,5 @@
 -- Between two neighbouring rows the volume is that of the straight line through them.
-use Rattle.std.proofs.Common.{◌≡◌, ℕ, zero, suc, ◌+◌, ◌-◌, ◌*◌, ◌<◌, ◌≤◌, true, leb, List, [], ◌∷◌, length, sym, refl, ap, ◌∙◌, subst, not-suc-le-zero, add-one, arith}
+use Rattle.std.proofs.Common.{◌≡◌, ℕ, zero, suc, ◌+◌, ◌-◌, ◌*◌, ◌<◌, ◌≤◌, true, leb, List, [], ◌∷◌, length, sym, ap, ◌∙◌, subst, not-suc-le-zero, add-one, arith}
 use Rattle.std.proofs.lemmas.Bool.{le-leb, leb-true, cond-true, cond_both}
 use Rattle.measure.specs.Fractions.{Fraction, natural, over, ◌⊕◌, ◌≃◌}
 use Rattle.measure.specs.FractionLaws.{≃-refl, ≃-sym, ≃-trans}

@@ -1,11 +1,11 @@
-use Rattle.std.proofs.Common.{◌≡◌, ℕ, ◌+◌, ◌<◌, eqb, List, [], ◌∷◌, length, vec_items, Option, Result, sym, ap, ◌∙◌, arith, rules}
+use Rattle.std.proofs.Common.{◌≡◌, ℕ, ◌+◌, ◌<◌, List, [], ◌∷◌, length, vec_items, Option, Result, sym, ap, ◌∙◌, arith}
 use Rattle.std.proofs.lemmas.Result.{err_from_is_err_and}
 use Rattle.std.proofs.lemmas.Bool.{eqb-true, eqb-false}
 use Rattle.journal.specs.declared.entry.Entry.{Entry}
 use Rattle.journal.specs.declared.place.Stage.TheVariants.{Start}
 use Rattle.journal.specs.declared.reader.Fault.{Fault}
 use Rattle.journal.specs.declared.reader.NumberedEntry.{NumberedEntry}
-use Rattle.journal.specs.Journals.{journal_of, entries_from}
+use Rattle.journal.specs.Journals.{entries_from}
 use Rattle.journal.specs.Words.{lines_of}
 use Rattle.journal.proofs.Lines.{after_entries, following, with_entry, one_more, no_more, read_one, read_wrong, read_lines, cut_line, none_following, some_following}
 use Rattle.journal.proofs.reader.read_journal.Goals as goal

@@ -1,4 +1,4 @@
-use Rattle.std.proofs.Common.{◌≡◌, ℕ, Option, Result, ap, ◌∙◌}
+use Rattle.std.proofs.Common.{ℕ, Option, Result, ap, ◌∙◌}
 use Rattle.measure.specs.declared.refusal.Refusal.{Refusal}
 use Rattle.capacity.specs.Tables.{answered}
 use Rattle.survey.specs.Surveys.{shape_refusal, survey_reach, survey_volume, tank_meaning, unless_refused}
