@@ -1,13 +1,11 @@
 -- How the elements stay right where one is fitted or hears a temperature.
-use Rattle.std.proofs.Common.{◌≡◌, ℕ, zero, suc, ◌+◌, ◌<◌, ◌≤◌, Bool, true, false, cond, not, ◌&&◌, ◌||◌, T, eqb, ltb, leb, ◌⊎◌, List, [], ◌∷◌, ◌++◌, length, get_or, take, set, ℤ, pos, Some, None, sym, refl, ap, ◌∙◌, ⊎_elim, not-suc-le-zero, arith, length-take-le}
+use Rattle.std.proofs.Common.{◌≡◌, ℕ, zero, suc, ◌+◌, ◌<◌, ◌≤◌, Bool, true, false, cond, not, ◌&&◌, ◌||◌, T, eqb, ltb, leb, ◌⊎◌, List, [], ◌∷◌, ◌++◌, length, get_or, take, set, ℤ, pos, Some, None, refl, ap, ◌∙◌, ⊎_elim, not-suc-le-zero, arith, length-take-le}
 use lib.Signed.{lt_z, le_z, lt_z_no}
 use Rattle.std.proofs.lemmas.Bool.{and_parts, and_from, leb-true, le-leb, cond_both, cond-true, cond-false, or_left, or_right, or_from, lt-leb, lt-ltb, le-ltb, eqb-true, eq-eqb, true≢false}
 use Rattle.measure.specs.Limits.{highest_level}
 use Rattle.working.specs.Limits.{coldest_good, warmest_good}
-use Rattle.probe.specs.declared.element.ElementState.{ElementState}
 use Rattle.probe.specs.declared.element.ElementState.TheVariants.{Good, Short, Open}
 use Rattle.probe.specs.declared.element.ProbeElement.{ProbeElement}
-use Rattle.measure.specs.declared.refusal.Refusal.{Refusal}
 use Rattle.measure.specs.declared.refusal.Cause.TheVariants.{ElementNotFitted, ElementHeight, ProbeFull}
 use Rattle.measure.specs.Refusals.{refusal}
 use Rattle.probe.specs.declared.probe.Probe.{Probe}

@@ -1,8 +1,7 @@
-use Rattle.std.proofs.Common.{◌≡◌, ℕ, ◌+◌, ◌*◌, ◌^◌, ◌<◌, ◌≤◌, List, [], ◌∷◌, ◌++◌, length, take, drop, Option, sym, refl, ap, ◌∙◌, subst, append_assoc, append-nil, arith, length-set}
+use Rattle.std.proofs.Common.{◌≡◌, ℕ, ◌+◌, ◌*◌, ◌^◌, ◌<◌, List, [], ◌∷◌, ◌++◌, length, take, drop, Option, sym, ap, ◌∙◌, append_assoc, append-nil, arith, length-set}
 use Rattle.std.proofs.lemmas.List.{at_drop_more, at_drop_all, take_more_set}
 use Rattle.working.specs.declared.element.CountingElement.{CountingElement}
-use Rattle.probe.specs.declared.element.ProbeElement.{ProbeElement}
-use Rattle.probe.specs.Elements.{counted, new_element}
+use Rattle.probe.specs.Elements.{new_element}
 use Rattle.probe.specs.Counted.{counting, counting_word, counted_before, bit_of}
 use Rattle.probe.proofs.Words.{set_bit, bit_more, word_below, word_still_below}
 use Rattle.probe.proofs.counting.selecting.counting_among.Goals as goal
@@ -35,23 +34,23 @@ loop-i-preserved c =
           let e = w.in-Some.element in
           let found = w.in-Some.is in
           let room : c.loop-i.count < length held = omega (arith, few, all) in
-          let list-now : take c.match-counted.count c.match-counted.list ≡ so_far ++ (e ∷ []) = simp (w.list-is, w.count_is) (take_more_set held c.loop-i.count e room) in
+          let list-now : take c.match-counted.count c.match-counted.list ≡ so_far ++ (e ∷ []) = simp (w.list-is, w.count-is) (take_more_set held c.loop-i.count e room) in
           let word-now : c.match-counted.word ≡ 2 ^ i + c.loop-i.word = w.word-is ∙ set_bit c.loop-i.word i below (omega arith) in
           let more = bit_more c.loop-i.word i 1 word_after total (sym (ap word-with found) ∙ word-left) in (
             ap (λ (es : List CountingElement). es ++ after) list-now ∙ append_assoc so_far (e ∷ []) after ∙ sym (ap chosen-with found) ∙ list_left,
             omega (arith, word-now, more),
             omega (arith, word-now, word_below c.loop-i.word i below),
-            omega (arith, w.count_is, few),
+            omega (arith, w.count-is, few),
             ap (length {A = CountingElement}) w.list-is ∙ length-set held c.loop-i.count e ∙ all,
           )
       | in_default w ↦
           let missed = w.in_default.is in
-          let list-now : take c.match-counted.count c.match-counted.list ≡ so_far = simp (w.list-is, w.count_is) in
+          let list-now : take c.match-counted.count c.match-counted.list ≡ so_far = simp (w.list-is, w.count-is) in
           let more = bit_more c.loop-i.word i 0 word_after total (sym (ap word-with missed) ∙ word-left) in (
             ap (λ (es : List CountingElement). es ++ after) list-now ∙ sym (ap chosen-with missed) ∙ list_left,
             omega (arith, w.word-is, more),
             omega (arith, w.word-is, word_still_below c.loop-i.word i below),
-            omega (arith, w.count_is, few),
+            omega (arith, w.count-is, few),
             ap (length {A = CountingElement}) w.list-is ∙ all,
           )
     ]

@@ -1,4 +1,4 @@
-use Rattle.std.proofs.Common.{◌≡◌, ℕ, ◌+◌, ◌<◌, ◌≤◌, true, ◌⊎◌, List, [], ◌∷◌, ◌++◌, length, take, set, ℤ, Err, Option, Result, sym, refl, ap, ◌∙◌, subst, inl, inr, ⊎_elim, arith, length-set, rules}
+use Rattle.std.proofs.Common.{◌≡◌, ◌+◌, ◌<◌, ◌≤◌, true, ◌⊎◌, List, [], ◌∷◌, ◌++◌, length, take, set, Err, Option, Result, sym, ap, ◌∙◌, subst, inl, inr, ⊎_elim, arith, length-set, rules}
 use Rattle.std.proofs.lemmas.List.{take_more_set}
 use Rattle.measure.specs.Limits.{highest_level}
 use Rattle.measure.specs.Refusals.{refusal}
@@ -6,10 +6,10 @@ use Rattle.measure.specs.declared.refusal.Refusal.{Refusal}
 use Rattle.measure.specs.declared.refusal.Cause.TheVariants.{ElementHeight}
 use Rattle.probe.specs.declared.element.ProbeElement.{ProbeElement}
 use Rattle.probe.specs.Elements.{lowest_free, new_element, right_from}
-use Rattle.probe.specs.Probes.{fitted_in, fit_refusal, done_unless, unless_refused}
+use Rattle.probe.specs.Probes.{fitted_in, done_unless, unless_refused}
 use Rattle.probe.proofs.Fitted.{entered, entries_right, right_push, full, height_refused, height_free}
 use Rattle.probe.proofs.probe.Probe.fit.Goals as goal
-use Rattle.probe.proofs.probe.Probe.fit.Goals.{After-way_told·1}
+use Rattle.probe.proofs.probe.Probe.fit.Goals.{After-way_told-1}
 
 abbrev told : Refusal → Result (Unit {0}) Refusal
 told e = Err e
@@ -41,7 +41,7 @@ returns-then-height-lowest_free c =
     }
 
 -- what is fitted after
-added : (c : goal.After-way_told·1) → take (c.args.self.now.fitted + 1) (set c.args.self.now.entries.list c.args.self.now.fitted (new_element c.args.height)) ≡ fitted_in c.args.self.now ++ (new_element c.args.height ∷ [])
+added : (c : goal.After-way_told-1) → take (c.args.self.now.fitted + 1) (set c.args.self.now.entries.list c.args.self.now.fitted (new_element c.args.height)) ≡ fitted_in c.args.self.now ++ (new_element c.args.height ∷ [])
 added c =
     let p = c.args.self.now in
     let room : p.fitted < length p.entries.list = omega (arith, (entered p).all) in
@@ -53,11 +53,11 @@ invariant_of-self c =
     let height = c.args.height in
     let held = entered p in
     let entries = p.entries.list in
-    let low : lowest_free (fitted_in p) ≤ height = omega (arith, c.lowest_free.ensures) in (
-      entries_right (set entries p.fitted (new_element height)) (p.fitted + 1) (length-set entries p.fitted (new_element height) ∙ held.all) (omega arith)
-          (subst (λ (es : List ProbeElement). right_from 0 es ≡ true) (sym (added c)) (right_push 0 height (fitted_in p) held.standing (omega arith) low (omega arith))),
-      tt,
-    )
+    let low : lowest_free (fitted_in p) ≤ height = omega (arith, c.lowest_free.ensures) in
+    record {
+      right = entries_right (set entries p.fitted (new_element height)) (p.fitted + 1) (length-set entries p.fitted (new_element height) ∙ held.all) (omega arith)
+          (subst (λ (es : List ProbeElement). right_from 0 es ≡ true) (sym (added c)) (right_push 0 height (fitted_in p) held.standing (omega arith) low (omega arith)));
+    }
 
 pub returns : goal.returns
 returns c =
@@ -68,5 +68,5 @@ returns c =
     let free = height_free es height (omega (arith, (entered p).count)) low (omega arith) in
     record {
       answer = ap done_unless (sym free);
-      after = added (goal.at.returns c).After-way_told·1 ∙ ap (λ (o : Option Refusal). unless_refused o es (es ++ (new_element height ∷ []))) (sym free);
+      after = added (goal.at.returns c).After-way_told-1 ∙ ap (λ (o : Option Refusal). unless_refused o es (es ++ (new_element height ∷ []))) (sym free);
     }

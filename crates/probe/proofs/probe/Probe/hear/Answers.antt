@@ -1,11 +1,11 @@
-use Rattle.std.proofs.Common.{◌≡◌, ℕ, ◌-◌, ◌<◌, ◌≤◌, true, ◌⊎◌, List, length, get_or, take, set, Err, Option, Result, sym, refl, ap, ◌∙◌, subst, inl, inr, arith, length-set, get_or-take, rules}
+use Rattle.std.proofs.Common.{◌≡◌, ◌-◌, ◌<◌, true, ◌⊎◌, List, length, get_or, take, set, Err, Option, Result, sym, refl, ap, ◌∙◌, subst, inl, inr, arith, length-set, get_or-take, rules}
 use Rattle.std.proofs.lemmas.Int.{to_z-of_z}
 use Rattle.measure.specs.Refusals.{refusal}
 use Rattle.measure.specs.declared.refusal.Refusal.{Refusal}
 use Rattle.measure.specs.declared.refusal.Cause.TheVariants.{ElementNotFitted}
 use Rattle.probe.specs.declared.element.ProbeElement.{ProbeElement}
-use Rattle.probe.specs.Elements.{heard, new_element, right_from, state_of}
-use Rattle.probe.specs.Probes.{fitted_in, hear_refusal, done_unless, unless_refused}
+use Rattle.probe.specs.Elements.{heard, new_element, right_from}
+use Rattle.probe.specs.Probes.{fitted_in, done_unless, unless_refused}
 use Rattle.probe.proofs.Fitted.{entered, entries_right, right_set, state_of_right, take_set_below, not_fitted, is_fitted}
 use Rattle.probe.proofs.probe.Probe.hear.Goals as goal
 use Rattle.probe.proofs.probe.Probe.hear.Goals.{After-hear, then-number-lt1-via-then-number-lt1, then-number-lt1-via-else-number-lt1+then-number-self}
@@ -48,11 +48,11 @@ invariant_of-self c =
     let entries = p.entries.list in
     let held = entered p in
     let k = c.args.number - 1 in
-    let now = heard (get_or (fitted_in p) k (new_element 0)) c.args.hundredths in (
-      entries_right (set entries k c.hear.new.self) p.fitted (length-set entries k c.hear.new.self ∙ held.all) held.few
-          (subst (λ (es : List ProbeElement). right_from 0 es ≡ true) (sym (changed c)) (right_set 0 (fitted_in p) k now (new_element 0) held.standing refl (state_of_right c.args.hundredths))),
-      tt,
-    )
+    let now = heard (get_or (fitted_in p) k (new_element 0)) c.args.hundredths in
+    record {
+      right = entries_right (set entries k c.hear.new.self) p.fitted (length-set entries k c.hear.new.self ∙ held.all) held.few
+          (subst (λ (es : List ProbeElement). right_from 0 es ≡ true) (sym (changed c)) (right_set 0 (fitted_in p) k now (new_element 0) held.standing refl (state_of_right c.args.hundredths)));
+    }
 
 pub returns : goal.returns
 returns c =

@@ -1,12 +1,10 @@
-use Rattle.std.proofs.Common.{◌≡◌, ℕ, zero, suc, ◌+◌, ◌-◌, ◌<◌, ◌≤◌, List, length, get_or, take, sym, ap, ◌∙◌, arith}
-use Rattle.probe.specs.declared.element.ProbeElement.{ProbeElement}
-use Rattle.probe.specs.Elements.{lowest_free, new_element, right_from}
-use Rattle.measure.specs.Limits.{highest_level}
+use Rattle.std.proofs.Common.{◌≡◌, ℕ, suc, ◌+◌, ◌-◌, ◌<◌, length, get_or, take, sym, ap, ◌∙◌, arith}
+use Rattle.probe.specs.Elements.{lowest_free, new_element}
 use Rattle.probe.proofs.Fitted.{entered, lowest_at, free_within}
 use Rattle.probe.proofs.probe.Probe.lowest_free.Goals as goal
-use Rattle.probe.proofs.probe.Probe.lowest_free.Goals.{After-way_told·1}
+use Rattle.probe.proofs.probe.Probe.lowest_free.Goals.{After-way_told-1}
 
-value : (c : goal.After-way_told·1) → lowest_free (take c.args.self.now.fitted c.args.self.now.entries.list) ≡ (get_or c.args.self.now.entries.list (c.args.self.now.fitted - 1) (new_element 0)).height + 1
+value : (c : goal.After-way_told-1) → lowest_free (take c.args.self.now.fitted c.args.self.now.entries.list) ≡ (get_or c.args.self.now.entries.list (c.args.self.now.fitted - 1) (new_element 0)).height + 1
 value c =
     let p = c.args.self.now in
     let held = entered p in
