@@ -2,14 +2,14 @@
 #![tactic(auto)]
 
 ghost use Rattle.figures.specs.Figures.{Holds, checked_figures};
-ghost use Rattle.std.specs.List.{AllByRecursion as All};
+ghost use Rattle.std.specs.List.{AllByRecursion};
 
 #[cfg(test)]
 mod tests;
 
 /// Every checked figure holds.
 pub fn checked_figures_hold() -> u8
-    ensures { All Holds checked_figures }
+    ensures { AllByRecursion Holds checked_figures }
 {
     0
 }
