@@ -11,36 +11,36 @@ use Rattle.probe.proofs.Rising.{counting_rises}
 use Rattle.computer.proofs.Observed.{rule_limits, liquid_made}
 use Rattle.computer.proofs.computer.TankComputer.read.Goals as goal
 
-pub invariant-of-liquid : goal.invariant-of-liquid
-invariant-of-liquid g c =
+pub invariant_of-liquid : goal.invariant_of-liquid
+invariant_of-liquid g c =
     let held = c.args.self.now in
-    let level = c.in-ok-level.level in
+    let level = c.in_ok-level.level in
     let es : List CountingElement = counting held.water level (fitted_in held.probe) in
     let same = c.counting-counting.ensures.elements in
     let first = ap (length {A = CountingElement}) (c.elements.ensures ∙ same) in
-    let apart = eqb-false (length c.elements.result.now) 0 (sym c.if-is-empty.ensures) in
+    let apart = eqb-false (length c.elements.result.now) 0 (sym c.if-is_empty.ensures) in
     let some : 0 < length es = omega (arith, first, apart) in
-    let most : level ≤ highest_level = g.G.Gauge.meaning.laws.level_most held.gauge level (sym c.in-ok-level.ensures) in (
-      subst (λ (list : List CountingElement). liquid_right list held.water level ≡ true) (sym (c.elements-2.ensures ∙ same))
-          (liquid_made es held.water level some c.if-self-level.false most (counting_rises held.water level (fitted_in held.probe) (entered held.probe).standing)),
-      tt,
-    )
+    let most : level ≤ highest_level = g.G.Gauge.meaning.laws.level_most held.gauge level (sym c.in_ok-level.ensures) in
+    record {
+      right = subst (λ (list : List CountingElement). liquid_right list held.water level ≡ true) (sym (c.elements-2.ensures ∙ same))
+          (liquid_made es held.water level some c.if-self-level.false most (counting_rises held.water level (fitted_in held.probe) (entered held.probe).standing));
+    }
 
-pub invariant-of-observation : goal.invariant-of-observation
-invariant-of-observation g c =
+pub invariant_of-observation : goal.invariant_of-observation
+invariant_of-observation g c =
     let held = c.args.self.now in
-    let level = c.in-ok-level.level in
-    let a = c.in-ok-at-level.at_level in
-    let b = c.in-ok-at-water.at-water in
+    let level = c.in_ok-level.level in
+    let a = c.in_ok-at_level.at_level in
+    let b = c.in_ok-at_water.at_water in
     let laws = answer_laws g.T.CapacityTable.meaning in
-    let at_level = sym c.in-ok-at-level.ensures in
-    let at-water = sym c.in-ok-at-water.ensures in
+    let at_level = sym c.in_ok-at_level.ensures in
+    let at-water = sym c.in_ok-at_water.ensures in
     let dry : held.water ≤ level = omega (arith, c.if-self-level.false) in
-    let rule = rule_limits g.P.ProductRule.meaning held.rule c.in-Some.density c.in-ok-coefficient.coefficient (sym c.in-ok-coefficient.ensures) in (
-      (
+    let rule = rule_limits g.P.ProductRule.meaning held.rule c.in-Some.density c.in_ok-coefficient.coefficient (sym c.in_ok-coefficient.ensures) in
+    record {
+      limits = (
         (laws.most held.table level a at_level, laws.never_falls held.table held.water level b a dry at-water at_level),
         (held.within, rule.coefficient_most),
         (rule.density_least, rule.density_most),
-      ),
-      tt,
-    )
+      );
+    }
