@@ -1,5 +1,5 @@
 -- The ledger of a tank computer: what it knows, kept from what commissioning was given and the calls alone.
-use Rattle.std.specs.Prelude.{ℕ, List, [], Some, None, Option}
+use Rattle.std.specs.Prelude.{ℕ, List, [], None, Option}
 use Rattle.capacity.specs.Tables.{TableMeaning}
 use Rattle.gauge.specs.Gauges.{GaugeMeaning}
 use Rattle.product.specs.Rules.{RuleMeaning}

@@ -1,5 +1,5 @@
 -- What a read answers: the first of six causes, or a reading with every figure by its rule.
-use Rattle.std.specs.Prelude.{◌≡◌, ℕ, ◌-◌, Bool, true, not, List, ℤ, pos, Some, None, Ok, Err, Option, Result, count_ones, nat_le}
+use Rattle.std.specs.Prelude.{◌≡◌, ℕ, ◌-◌, true, not, List, ℤ, pos, Some, None, Ok, Err, Option, Result, count_ones, nat_le}
 use Rattle.measure.specs.declared.refusal.Refusal.{Refusal}
 use Rattle.measure.specs.declared.refusal.Cause.TheVariants.{DensityUnset, WaterAtLevel, NoElementCounts}
 use Rattle.measure.specs.Refusals.{refusal}

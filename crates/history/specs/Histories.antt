@@ -2,7 +2,6 @@
 use Rattle.std.specs.Prelude.{◌≡◌, ℕ, ◌<◌, List, [], ◌∷◌, length, take, Some, None, Ok, Err, Result, slice_index_or}
 use Rattle.measure.specs.declared.refusal.Refusal.{Refusal}
 use Rattle.probe.specs.Probes.{done_unless}
-use Rattle.computer.specs.declared.reading.Reading.{Reading}
 use Rattle.computer.specs.Ledgers.{Meanings, Ledger}
 use Rattle.computer.specs.Calls.{adopt_refusal, after_adopt, sample_refusal, after_sample, fit_refused, after_fit, element_refused, after_element, density_refused, after_density, shell_refused, after_shell, water_refused, after_water}
 use Rattle.computer.specs.Readings.{read_refusal, Carries}

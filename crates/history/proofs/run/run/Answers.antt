@@ -1,4 +1,4 @@
-use Rattle.std.proofs.Common.{◌≡◌, List, vec_items, sym, subst}
+use Rattle.std.proofs.Common.{vec_items, sym, subst}
 use Rattle.std.proofs.lemmas.Result.{IfOk-weaker}
 use Rattle.computer.specs.Ledgers.{Ledger, meanings, commissioned, ledger_of}
 use Rattle.computer.specs.Readings.{DensityCovered}
@@ -12,4 +12,4 @@ returns g c =
     let start = commissioned c.args.tank c.args.gauge c.args.table c.args.date c.args.rule in
     let same = c.commission-computer.ensures in
     let unset : DensityCovered m (ledger_of c.commission-computer.result) = subst (λ (l : Ledger g.row.G.Denot g.row.T.Denot g.row.P.Denot). DensityCovered m l) (sym same) tt in
-    IfOk-weaker c.serve-all.result _ _ (λ v h. ran m start (vec_items c.args.calls) (vec_items v) (subst (λ (l : Ledger g.row.G.Denot g.row.T.Denot g.row.P.Denot). Answered m l (vec_items c.args.calls) (vec_items v)) same (h unset))) c.serve-all.ensures
+    IfOk-weaker c.serve_all.result _ _ (λ v h. ran m start (vec_items c.args.calls) (vec_items v) (subst (λ (l : Ledger g.row.G.Denot g.row.T.Denot g.row.P.Denot). Answered m l (vec_items c.args.calls) (vec_items v)) same (h unset))) c.serve_all.ensures

@@ -1,7 +1,7 @@
-use Rattle.std.proofs.Common.{◌≡◌, List, vec_items, sym, ◌∙◌, subst}
+use Rattle.std.proofs.Common.{List, vec_items, sym, ◌∙◌, subst}
 use Rattle.std.proofs.lemmas.List.{nil_from_length}
-use Rattle.std.specs.Vec.Iter.{into_iter_items, into_iter_len}
-use Rattle.computer.specs.Ledgers.{Ledger, meanings, ledger_of}
+use Rattle.std.specs.Vec.Iter.{into_iter_items}
+use Rattle.computer.specs.Ledgers.{meanings, ledger_of}
 use Rattle.computer.specs.Readings.{DensityCovered}
 use Rattle.history.specs.declared.call.Call.{Call}
 use Rattle.history.specs.Histories.{Answered}
@@ -16,7 +16,7 @@ loop-call-preserved g c h =
     let inv = c.loop-call.invariant h in
     let stepped = c.serve-answer.ensures.after in (
       subst (DensityCovered m) (sym stepped) (density_kept m now c.in-Some.call inv.0),
-      one_more m (ledger_of c.args.computer.now) now after _ (into_iter_items c.loop-call.call-iterator) (into_iter_items c.next.new.self) c.in-Some.call c.serve-answer.result (vec_items c.loop-call.answers) _ inv.1 c.in-Some.ensures.steps.0 (c.serve-answer.ensures.answer inv.0) stepped c.in-ok-push.ensures.items,
+      one_more m (ledger_of c.args.computer.now) now after _ (into_iter_items c.loop-call.call-iterator) (into_iter_items c.next.new.self) c.in-Some.call c.serve-answer.result (vec_items c.loop-call.answers) _ inv.1 c.in-Some.ensures.steps.0 (c.serve-answer.ensures.answer inv.0) stepped c.in_ok-push.ensures.items,
     )
 
 pub returns : goal.returns
@@ -25,5 +25,5 @@ returns g c h =
     let start = ledger_of c.args.computer.now in
     let rest = c.loop-call.call-iterator in
     let gone = nil_from_length (into_iter_items rest) (sym rest.rest.ok.0 ∙ c.in-None.ensures.steps.0) in
-    let all = none_left m start (ledger_of c.loop-call.computer) (into_iter_items c.into-iter-call-iterator.result) (into_iter_items rest) (vec_items c.loop-call.answers) (c.loop-call.invariant h).1 gone in
-    subst (λ (calls : List (Call g.row.T.Denot)). Answered m start calls (vec_items c.loop-call.answers)) c.into-iter-call-iterator.ensures.into-iter-gives.0 all
+    let all = none_left m start (ledger_of c.loop-call.computer) (into_iter_items c.into_iter-call-iterator.result) (into_iter_items rest) (vec_items c.loop-call.answers) (c.loop-call.invariant h).1 gone in
+    subst (λ (calls : List (Call g.row.T.Denot)). Answered m start calls (vec_items c.loop-call.answers)) c.into_iter-call-iterator.ensures.into_iter_gives.0 all
