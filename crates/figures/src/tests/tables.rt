@@ -16,7 +16,7 @@ const LOW: [Row; 2] = [
     },
 ];
 
-const TALL: [Row; 2] = [
+pub(crate) const TALL: [Row; 2] = [
     Row {
         height: 0,
         litres: 0,
