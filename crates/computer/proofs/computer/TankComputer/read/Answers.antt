@@ -34,12 +34,12 @@ invariant_of-observation g c =
     let b = c.in_ok-at_water.at_water in
     let laws = answer_laws g.T.CapacityTable.meaning in
     let at_level = sym c.in_ok-at_level.ensures in
-    let at-water = sym c.in_ok-at_water.ensures in
+    let at_water = sym c.in_ok-at_water.ensures in
     let dry : held.water ≤ level = omega (arith, c.if-self-level.false) in
     let rule = rule_limits g.P.ProductRule.meaning held.rule c.in-Some.density c.in_ok-coefficient.coefficient (sym c.in_ok-coefficient.ensures) in
     record {
       limits = (
-        (laws.most held.table level a at_level, laws.never_falls held.table held.water level b a dry at-water at_level),
+        (laws.most held.table level a at_level, laws.never_falls held.table held.water level b a dry at_water at_level),
         (held.within, rule.coefficient_most),
         (rule.density_least, rule.density_most),
       );

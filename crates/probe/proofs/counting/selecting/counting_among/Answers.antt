@@ -19,12 +19,12 @@ loop-i-preserved c =
     let after : List CountingElement = counting water level rest in
     let word_after : ℕ = counting_word water level rest in
     let joined : List CountingElement → List CountingElement = λ es. so_far ++ es in
-    let chosen-with : Option CountingElement → List CountingElement = λ found. so_far ++ counted_before found after in
-    let word-with : Option CountingElement → ℕ = λ found. c.loop-i.word + 2 ^ i * (bit_of found + 2 * word_after) in
+    let chosen_with : Option CountingElement → List CountingElement = λ found. so_far ++ counted_before found after in
+    let word_with : Option CountingElement → ℕ = λ found. c.loop-i.word + 2 ^ i * (bit_of found + 2 * word_after) in
     let raised : ℕ → ℕ = λ n. c.loop-i.word + 2 ^ i * n in
     let told = c.counted.ensures in
-    let list_left : chosen-with c.counted.result ≡ counting water level elements = ap chosen-with told ∙ sym (ap joined (at_drop_more (counting water level) elements i (new_element 0) c.loop-i-test.true)) ∙ c.loop-i.invariant.0 in
-    let word-left : word-with c.counted.result ≡ counting_word water level elements = ap word-with told ∙ sym (ap raised (at_drop_more (counting_word water level) elements i (new_element 0) c.loop-i-test.true)) ∙ c.loop-i.invariant.1 in
+    let list_left : chosen_with c.counted.result ≡ counting water level elements = ap chosen_with told ∙ sym (ap joined (at_drop_more (counting water level) elements i (new_element 0) c.loop-i-test.true)) ∙ c.loop-i.invariant.0 in
+    let word_left : word_with c.counted.result ≡ counting_word water level elements = ap word_with told ∙ sym (ap raised (at_drop_more (counting_word water level) elements i (new_element 0) c.loop-i-test.true)) ∙ c.loop-i.invariant.1 in
     let total : ℕ = counting_word water level elements in
     let below = c.loop-i.invariant.2 in
     let few = c.loop-i.invariant.3 in
@@ -34,20 +34,20 @@ loop-i-preserved c =
           let e = w.in-Some.element in
           let found = w.in-Some.is in
           let room : c.loop-i.count < length held = omega (arith, few, all) in
-          let list-now : take c.match-counted.count c.match-counted.list ≡ so_far ++ (e ∷ []) = simp (w.list-is, w.count-is) (take_more_set held c.loop-i.count e room) in
-          let word-now : c.match-counted.word ≡ 2 ^ i + c.loop-i.word = w.word-is ∙ set_bit c.loop-i.word i below (omega arith) in
-          let more = bit_more c.loop-i.word i 1 word_after total (sym (ap word-with found) ∙ word-left) in (
-            ap (λ (es : List CountingElement). es ++ after) list-now ∙ append_assoc so_far (e ∷ []) after ∙ sym (ap chosen-with found) ∙ list_left,
-            omega (arith, word-now, more),
-            omega (arith, word-now, word_below c.loop-i.word i below),
+          let list_now : take c.match-counted.count c.match-counted.list ≡ so_far ++ (e ∷ []) = simp (w.list-is, w.count-is) (take_more_set held c.loop-i.count e room) in
+          let word_now : c.match-counted.word ≡ 2 ^ i + c.loop-i.word = w.word-is ∙ set_bit c.loop-i.word i below (omega arith) in
+          let more = bit_more c.loop-i.word i 1 word_after total (sym (ap word_with found) ∙ word_left) in (
+            ap (λ (es : List CountingElement). es ++ after) list_now ∙ append_assoc so_far (e ∷ []) after ∙ sym (ap chosen_with found) ∙ list_left,
+            omega (arith, word_now, more),
+            omega (arith, word_now, word_below c.loop-i.word i below),
             omega (arith, w.count-is, few),
             ap (length {A = CountingElement}) w.list-is ∙ length-set held c.loop-i.count e ∙ all,
           )
       | in_default w ↦
           let missed = w.in_default.is in
-          let list-now : take c.match-counted.count c.match-counted.list ≡ so_far = simp (w.list-is, w.count-is) in
-          let more = bit_more c.loop-i.word i 0 word_after total (sym (ap word-with missed) ∙ word-left) in (
-            ap (λ (es : List CountingElement). es ++ after) list-now ∙ sym (ap chosen-with missed) ∙ list_left,
+          let list_now : take c.match-counted.count c.match-counted.list ≡ so_far = simp (w.list-is, w.count-is) in
+          let more = bit_more c.loop-i.word i 0 word_after total (sym (ap word_with missed) ∙ word_left) in (
+            ap (λ (es : List CountingElement). es ++ after) list_now ∙ sym (ap chosen_with missed) ∙ list_left,
             omega (arith, w.word-is, more),
             omega (arith, w.word-is, word_still_below c.loop-i.word i below),
             omega (arith, w.count-is, few),
