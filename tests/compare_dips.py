@@ -1,7 +1,7 @@
 #!/usr/bin/env python3
 """Random and extreme journals through `depot --raw` and through the model, which must agree on every line.
 
-    python3 tests/compare_dips.py [JOURNALS [SEED]]      default 300 journals, seed 1; needs target/bin/depot
+    python3 tests/compare_dips.py [JOURNALS [SEED]]      default 300 journals, seed 1, after make run
 """
 import os
 import random
@@ -10,7 +10,7 @@ import sys
 
 import dip_model
 
-DEPOT = os.path.join(os.path.dirname(os.path.abspath(__file__)), '..', 'target', 'bin', 'depot')
+DEPOT = os.path.join(os.path.dirname(os.path.abspath(__file__)), '..', 'crates', 'depot', 'out', 'depot')
 
 
 def near(rng, *values):
