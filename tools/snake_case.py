@@ -4,8 +4,9 @@
 usage: python3 tools/snake_case.py     at the top of the repository, once, after the toolchain's own port script
 
 A name is the repository's own where an .antt file of crates/ declares it (a definition, a lemma, a field, a local
-lemma) and no line imports it from a library. Goals that an answer file answers keep their names: they are made from
-the source. Functions of src/, strings, inputs and outputs are not touched. It stops where two names would fall together.
+lemma), or a clause binds it (LOCALS), and no line imports it from a library. Goals that an answer file answers keep
+their names: they are made from the source. Functions of src/, strings, inputs and outputs are not touched. It stops
+where two names would fall together.
 """
 import os
 import re
@@ -16,17 +17,25 @@ ANSWER = re.compile(r"^\s*(?:abbrev\s+)?pub\s+([\w'-]+)\s*:\s*(?:goal|need)\.\1\
 IMPORT = re.compile(r"^\s*(?:ghost )?use (\S+?)\.\{(.*)\}")
 TOKEN = re.compile(r"(?<![\w'·-])([A-Za-z][\w']*(?:-[\w']+)+)(?![\w'·-])")
 STRING = re.compile(r'b?"(?:[^"\\\n]|\\.)*"')
+# a law of one of the repository's operators: a plain word is added with '_', and a dash joins two operators
+LAW = re.compile(r"(?<![\w'·-])([⊑≃⊕⊖⊗])-([a-z]+(?:-[a-z]+)*)(?![\w'·⊑≃⊕⊖⊗-])")
 
 # bound by a clause or a lambda, not declared
 LOCALS = {
     "above-last",
+    "chosen-with",
     "down-part",
     "from-here",
     "held-under",
+    "list-now",
     "litres-per-metre",
     "low-enough",
+    "rule-answered",
     "up-part",
     "whole-n",
+    "word-left",
+    "word-now",
+    "word-with",
     "zero-first",
     "z-size",
 }
@@ -80,8 +89,11 @@ def respell(path, text, names):
         name = found.group(1)
         return snake(name) if name in names else name
 
+    def law(found):
+        return found.group(1) + "_" + snake(found.group(2))
+
     if path.endswith(".antt"):
-        return TOKEN.sub(one, text)
+        return LAW.sub(law, TOKEN.sub(one, text))
     parts, last = [], 0
     for string in STRING.finditer(text):
         parts += [TOKEN.sub(one, text[last : string.start()]), string.group(0)]

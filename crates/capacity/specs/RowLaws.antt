@@ -5,7 +5,7 @@ use Rattle.std.proofs.lemmas.Bool.{or_parts, not-false, leb-true, leb-false, ltb
 use Rattle.measure.specs.declared.refusal.Refusal.{Refusal}
 use Rattle.measure.specs.Limits.{highest_level, largest_reach, largest_litres}
 use Rattle.measure.specs.Fractions.{Fraction, natural, over, ◌⊕◌, ◌⊑◌}
-use Rattle.measure.specs.FractionLaws.{per_is, ⊑_refl, ⊑_trans, ⊕-mono}
+use Rattle.measure.specs.FractionLaws.{per_is, ⊑_refl, ⊑_trans, ⊕_mono}
 use Rattle.capacity.specs.declared.row.Row.{Row}
 use Rattle.capacity.specs.Rows.{refused_if, examined_above, nothing_found, sound, rows_reach, line, volume_above}
 
@@ -76,7 +76,7 @@ line_rises low high g h r le =
     let rises = over_rises (rise * (g - low.height)) (rise * (h - low.height)) run (run_some r) share in
     let lower = over (rise * (g - low.height)) run (run_some r) in
     let higher = over (rise * (h - low.height)) run (run_some r) in
-    let above = ⊕-mono (natural low.litres) (natural low.litres) lower higher (⊑_refl (natural low.litres)) rises in
+    let above = ⊕_mono (natural low.litres) (natural low.litres) lower higher (⊑_refl (natural low.litres)) rises in
     subst₂ (λ (v w : Fraction). v ⊑ w) (sym (line_is low high g r)) (sym (line_is low high h r)) above
 
 pub line_least : (low high : Row) (h : ℕ) → Rises low high → natural low.litres ⊑ line low high h

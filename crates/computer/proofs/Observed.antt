@@ -4,10 +4,10 @@ use borrow.Author.Differences.{ints}
 use Rattle.std.proofs.lemmas.Bool.{and_from, and_parts, leb-true, lt-ltb, le-leb}
 use Rattle.std.proofs.lemmas.Bool.Decides.{nat_tests}
 use Rattle.measure.specs.Fractions.{Fraction, natural, none, ◌⊗◌, ◌⊑◌}
-use Rattle.measure.specs.Limits.{highest_level, least_density, greatest_density}
+use Rattle.measure.specs.Limits.{highest_level}
 use Rattle.measure.specs.Rounding.{rounded_fraction}
 use Rattle.measure.proofs.Rounds.{fraction_rounding}
-use Rattle.product.specs.Rules.{RuleMeaning, answered, covered, million_millionths}
+use Rattle.product.specs.Rules.{least_density, greatest_density, RuleMeaning, answered, covered, million_millionths}
 use Rattle.working.specs.declared.element.CountingElement.{CountingElement}
 use Rattle.working.specs.Averages.{some_element, rising_from, liquid_right}
 use Rattle.working.specs.Limits.{most_coefficient}

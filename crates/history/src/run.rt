@@ -26,8 +26,15 @@ pub fn serve<G: Gauge, T: CapacityTable + Drop, P: ProductRule>(
     computer: &mut TankComputer<G, T, P>,
     call: Call<T>,
 ) -> Answer
-    ensures answer { DensityCovered (meanings G.Gauge.meaning T.CapacityTable.meaning P.ProductRule.meaning) (ledger_of computer.old) → AnswerOf (meanings G.Gauge.meaning T.CapacityTable.meaning P.ProductRule.meaning) (ledger_of computer.old) call result }
-    ensures after { ledger_of computer.new ≡ step (meanings G.Gauge.meaning T.CapacityTable.meaning P.ProductRule.meaning) (ledger_of computer.old) call }
+    ensures answer { DensityCovered
+        (meanings G.Gauge.meaning T.CapacityTable.meaning P.ProductRule.meaning)
+        (ledger_of computer.old)
+        → AnswerOf
+        (meanings G.Gauge.meaning T.CapacityTable.meaning P.ProductRule.meaning)
+        (ledger_of computer.old) call result }
+    ensures after { ledger_of computer.new ≡ step
+        (meanings G.Gauge.meaning T.CapacityTable.meaning P.ProductRule.meaning)
+        (ledger_of computer.old) call }
 {
     match call {
         Call::Adopt(table, date) => done(computer.adopt(table, date)),
@@ -50,7 +57,13 @@ fn serve_all<G: Gauge, T: CapacityTable + Drop, P: ProductRule>(
     computer: &mut TankComputer<G, T, P>,
     calls: Vec<Call<T>>,
 ) -> Result<Vec<Answer>, AllocError>
-    ensures { IfOk result (λ answers. DensityCovered (meanings G.Gauge.meaning T.CapacityTable.meaning P.ProductRule.meaning) (ledger_of computer.old) → Answered (meanings G.Gauge.meaning T.CapacityTable.meaning P.ProductRule.meaning) (ledger_of computer.old) calls.items answers.items) }
+    ensures { IfOk result
+        (λ answers. DensityCovered
+        (meanings G.Gauge.meaning T.CapacityTable.meaning P.ProductRule.meaning)
+        (ledger_of computer.old)
+        → Answered
+        (meanings G.Gauge.meaning T.CapacityTable.meaning P.ProductRule.meaning)
+        (ledger_of computer.old) calls.items answers.items) }
 {
     let mut answers = Vec::new(heap);
     for call in calls {
@@ -70,7 +83,10 @@ pub fn run<G: Gauge + Drop, T: CapacityTable + Drop, P: ProductRule + Drop>(
     rule: P,
     calls: Vec<Call<T>>,
 ) -> Result<Vec<Answer>, AllocError>
-    ensures { IfOk result (λ answers. Ran (meanings G.Gauge.meaning T.CapacityTable.meaning P.ProductRule.meaning) (commissioned tank gauge table date rule) calls.items answers.items) }
+    ensures { IfOk result
+        (λ answers. Ran
+        (meanings G.Gauge.meaning T.CapacityTable.meaning P.ProductRule.meaning)
+        (commissioned tank gauge table date rule) calls.items answers.items) }
 {
     let mut computer = TankComputer::commission(tank, gauge, table, date, rule);
     serve_all(heap, &mut computer, calls)

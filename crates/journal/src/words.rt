@@ -55,7 +55,8 @@ impl<'a> Words<'a> {
 
     /// The next word, or none at the end of the line.
     pub(crate) fn next(&mut self) -> Option<&'a [u8]>
-        ensures word { MatchOption result (next_word self.old.rest.now ≡ []) (λ w. (w.now ≡ next_word self.old.rest.now) × (0 < length w.now)) }
+        ensures word { MatchOption result (next_word self.old.rest.now ≡ [])
+            (λ w. (w.now ≡ next_word self.old.rest.now) × (0 < length w.now)) }
         ensures rest { self.new.rest.now ≡ after_word self.old.rest.now }
     {
         let line = self.rest;

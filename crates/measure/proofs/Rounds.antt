@@ -3,7 +3,7 @@ use Rattle.std.proofs.Common.{◌≡◌, ℕ, zero, suc, ◌+◌, ◌*◌, ◌<�
 use lib.IntN.{neg_ℤ-neg_ℤ}
 use borrow.Author.Differences.{ints, up, down, sum_is_lem, neg_is}
 use Rattle.measure.specs.Fractions.{Fraction, quotient, whole, numerator, negated, one_half, ◌⊑◌, ◌≃◌, Within}
-use Rattle.measure.specs.FractionLaws.{⊑-≃, ≃-⊑, ≃-sym, ≃-within, within-≃, whole_negated, within_negated}
+use Rattle.measure.specs.FractionLaws.{⊑-≃, ≃-⊑, ≃_sym, ≃_within, within-≃, whole_negated, within_negated}
 use Rattle.measure.specs.Rounding.{nearest, rounded, rounded_fraction}
 use Rattle.measure.specs.RoundingLaws.{RoundingLaws, FractionRounding}
 use Rattle.measure.proofs.Nearest.{nearest_is, nearest_low, nearest_high, nearest_most}
@@ -18,7 +18,7 @@ near : (a : ℤ) (d : ℕ) (h : 0 < d) → Within one_half (whole (rounded a d))
 near (pos n) d h = near_size n d h
 near (negsuc n) d h =
     let q : ℤ = pos (nearest (suc n) d) in
-    ≃-within one_half (whole (neg_ℤ q)) (negated (whole q)) (quotient (negsuc n) d h) (whole_negated q)
+    ≃_within one_half (whole (neg_ℤ q)) (negated (whole q)) (quotient (negsuc n) d h) (whole_negated q)
     (within_negated one_half (whole q) (quotient (pos (suc n)) d h) (near_size (suc n) d h))
 
 -- sizes keep their order: n / c ≤ m / d
@@ -72,7 +72,7 @@ fraction_rounding = record {
   near = λ x. within-≃ one_half (whole (rounded_fraction x)) (quotient (numerator x) x.den x.some) x (near (numerator x) x.den x.some) (same_quotient x);
   monotone = λ x y le. monotone (numerator x) (numerator y) x.den y.den x.some y.some
       (≃-⊑ (quotient (numerator x) x.den x.some) x (quotient (numerator y) y.den y.some) (same_quotient x)
-      (⊑-≃ x y (quotient (numerator y) y.den y.some) le (≃-sym (quotient (numerator y) y.den y.some) y (same_quotient y))));
+      (⊑-≃ x y (quotient (numerator y) y.den y.some) le (≃_sym (quotient (numerator y) y.den y.some) y (same_quotient y))));
   exact = λ a. let once : numerator (whole a) ≡ a *ℤ pos 1 = omega (arith, ints) in ap (λ (b : ℤ). rounded b 1) once ∙ exact a 1 (lit< tt);
 }
 

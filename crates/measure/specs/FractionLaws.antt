@@ -14,8 +14,8 @@ pub ⊑_trans : (x y z : Fraction) → x ⊑ y → y ⊑ z → x ⊑ z
 ⊑_trans x y z p q =
     le_of_mul-le-mul_right (omega (arith, mul-le-mul_right z.den p, mul-le-mul_right x.den q)) y.some
 
-pub ⊑-antisym : (x y : Fraction) → x ⊑ y → y ⊑ x → x ≃ y
-⊑-antisym x y p q = omega arith
+pub ⊑_antisym : (x y : Fraction) → x ⊑ y → y ⊑ x → x ≃ y
+⊑_antisym x y p q = omega arith
 
 -- ---- quotients
 
@@ -25,18 +25,18 @@ per_is n (suc d) h = ap (λ (p : 0 < suc d). over n (suc d) p) (le_prop (zero-lt
 
 -- ---- the same number
 
-pub ≃-refl : (x : Fraction) → x ≃ x
-≃-refl x = omega arith
+pub ≃_refl : (x : Fraction) → x ≃ x
+≃_refl x = omega arith
 
-pub ≃-sym : (x y : Fraction) → x ≃ y → y ≃ x
-≃-sym x y p = omega arith
+pub ≃_sym : (x y : Fraction) → x ≃ y → y ≃ x
+≃_sym x y p = omega arith
 
 pub ≃→⊑ : (x y : Fraction) → x ≃ y → x ⊑ y
 ≃→⊑ x y p = le_of_eq p
 
-pub ≃-trans : (x y z : Fraction) → x ≃ y → y ≃ z → x ≃ z
-≃-trans x y z p q =
-    ⊑-antisym x z (⊑_trans x y z (≃→⊑ x y p) (≃→⊑ y z q)) (⊑_trans z y x (≃→⊑ z y (≃-sym y z q)) (≃→⊑ y x (≃-sym x y p)))
+pub ≃_trans : (x y z : Fraction) → x ≃ y → y ≃ z → x ≃ z
+≃_trans x y z p q =
+    ⊑_antisym x z (⊑_trans x y z (≃→⊑ x y p) (≃→⊑ y z q)) (⊑_trans z y x (≃→⊑ z y (≃_sym y z q)) (≃→⊑ y x (≃_sym x y p)))
 
 pub ⊑-≃ : (x y z : Fraction) → x ⊑ y → y ≃ z → x ⊑ z
 ⊑-≃ x y z p q = ⊑_trans x y z p (≃→⊑ y z q)
@@ -65,49 +65,49 @@ sum_left a c e f g i k l = omega arith
 sum_right : (a c e f g i k l : ℕ) → (a * i + g * c) * (f * l) + (e * l + k * f) * (c * i) ≡ (a * f + e * c) * (l * i) + (g * l + k * i) * (f * c)
 sum_right a c e f g i k l = omega arith
 
-pub ⊕-mono : (x y z w : Fraction) → x ⊑ y → z ⊑ w → x ⊕ z ⊑ y ⊕ w
-⊕-mono x y z w p q =
+pub ⊕_mono : (x y z w : Fraction) → x ⊑ y → z ⊑ w → x ⊕ z ⊑ y ⊕ w
+⊕_mono x y z w p q =
     between
     (sum_left x.up x.den y.down y.den z.up z.den w.down w.den)
     (sum_naturals (mul-le-mul_right (z.den * w.den) p) (mul-le-mul_right (x.den * y.den) q))
     (sum_right y.up y.den x.down x.den w.up w.den z.down z.den)
 
-pub ⊕-comm : (x y : Fraction) → x ⊕ y ≃ y ⊕ x
-⊕-comm x y = omega arith
+pub ⊕_comm : (x y : Fraction) → x ⊕ y ≃ y ⊕ x
+⊕_comm x y = omega arith
 
-pub ⊕-assoc : (x y z : Fraction) → (x ⊕ y) ⊕ z ≃ x ⊕ (y ⊕ z)
-⊕-assoc x y z = omega arith
+pub ⊕_assoc : (x y z : Fraction) → (x ⊕ y) ⊕ z ≃ x ⊕ (y ⊕ z)
+⊕_assoc x y z = omega arith
 
-pub ⊕-cong : (x x' y y' : Fraction) → x ≃ x' → y ≃ y' → x ⊕ y ≃ x' ⊕ y'
-⊕-cong x x' y y' p q =
-    ⊑-antisym (x ⊕ y) (x' ⊕ y')
-    (⊕-mono x x' y y' (≃→⊑ x x' p) (≃→⊑ y y' q))
-    (⊕-mono x' x y' y (≃→⊑ x' x (≃-sym x x' p)) (≃→⊑ y' y (≃-sym y y' q)))
+pub ⊕_cong : (x x' y y' : Fraction) → x ≃ x' → y ≃ y' → x ⊕ y ≃ x' ⊕ y'
+⊕_cong x x' y y' p q =
+    ⊑_antisym (x ⊕ y) (x' ⊕ y')
+    (⊕_mono x x' y y' (≃→⊑ x x' p) (≃→⊑ y y' q))
+    (⊕_mono x' x y' y (≃→⊑ x' x (≃_sym x x' p)) (≃→⊑ y' y (≃_sym y y' q)))
 
 -- ---- products
 
-pub ⊗-comm : (x y : Fraction) → x ⊗ y ≃ y ⊗ x
-⊗-comm x y = omega arith
+pub ⊗_comm : (x y : Fraction) → x ⊗ y ≃ y ⊗ x
+⊗_comm x y = omega arith
 
-pub ⊗-assoc : (x y z : Fraction) → (x ⊗ y) ⊗ z ≃ x ⊗ (y ⊗ z)
-⊗-assoc x y z = omega arith
+pub ⊗_assoc : (x y z : Fraction) → (x ⊗ y) ⊗ z ≃ x ⊗ (y ⊗ z)
+⊗_assoc x y z = omega arith
 
 pub ⊗-⊕ : (x y z : Fraction) → x ⊗ (y ⊕ z) ≃ x ⊗ y ⊕ x ⊗ z
 ⊗-⊕ x y z = widened (x ⊗ (y ⊕ z)) (x ⊗ y ⊕ x ⊗ z) x.den 0 (omega arith) (omega arith) (omega arith)
 
-pub ⊗-cong-left : (x x' y : Fraction) → x ≃ x' → x ⊗ y ≃ x' ⊗ y
-⊗-cong-left x x' y p =
+pub ⊗_cong_left : (x x' y : Fraction) → x ≃ x' → x ⊗ y ≃ x' ⊗ y
+⊗_cong_left x x' y p =
     omega (arith, ap (λ (n : ℕ). n * (y.den * y.up)) p, ap (λ (n : ℕ). n * (y.den * y.down)) p)
 
-pub ⊗-cong : (x x' y y' : Fraction) → x ≃ x' → y ≃ y' → x ⊗ y ≃ x' ⊗ y'
-⊗-cong x x' y y' p q =
-    ≃-trans (x ⊗ y) (x' ⊗ y) (x' ⊗ y') (⊗-cong-left x x' y p)
-    (≃-trans (x' ⊗ y) (y ⊗ x') (x' ⊗ y') (⊗-comm x' y)
-    (≃-trans (y ⊗ x') (y' ⊗ x') (x' ⊗ y') (⊗-cong-left y y' x' q) (⊗-comm y' x')))
+pub ⊗_cong : (x x' y y' : Fraction) → x ≃ x' → y ≃ y' → x ⊗ y ≃ x' ⊗ y'
+⊗_cong x x' y y' p q =
+    ≃_trans (x ⊗ y) (x' ⊗ y) (x' ⊗ y') (⊗_cong_left x x' y p)
+    (≃_trans (x' ⊗ y) (y ⊗ x') (x' ⊗ y') (⊗_comm x' y)
+    (≃_trans (y ⊗ x') (y' ⊗ x') (x' ⊗ y') (⊗_cong_left y y' x' q) (⊗_comm y' x')))
 
 -- a factor that is not negative keeps the order
-pub ⊗-mono : (x y z : Fraction) → natural 0 ⊑ z → x ⊑ y → x ⊗ z ⊑ y ⊗ z
-⊗-mono x y z p q =
+pub ⊗_mono : (x y z : Fraction) → natural 0 ⊑ z → x ⊑ y → x ⊗ z ⊑ y ⊗ z
+⊗_mono x y z p q =
     let spread = crossed (x.up * y.den + y.down * x.den) (y.up * x.den + x.down * y.den) z.down z.up q (omega arith) in
     let scaled = mul-le-mul_right z.den spread in
     omega arith
@@ -124,7 +124,7 @@ pub ⊗-mono : (x y z : Fraction) → natural 0 ⊑ z → x ⊑ y → x ⊗ z �
 pub within_same : (x y : Fraction) → x ≃ y → Within (natural 0) x y
 within_same x y p = record {
   below = ⊑-≃ x y (y ⊕ natural 0) (≃→⊑ x y p) (omega arith);
-  above = ⊑-≃ y x (x ⊕ natural 0) (≃→⊑ y x (≃-sym x y p)) (omega arith);
+  above = ⊑-≃ y x (x ⊕ natural 0) (≃→⊑ y x (≃_sym x y p)) (omega arith);
 }
 
 pub within_sym : (e x y : Fraction) → Within e x y → Within e y x
@@ -136,7 +136,7 @@ within_negated e x y h = record { below = omega (arith, h.above); above = omega 
 one_way : (e f x y z : Fraction) → x ⊑ y ⊕ e → y ⊑ z ⊕ f → x ⊑ z ⊕ (e ⊕ f)
 one_way e f x y z p q =
     ⊑_trans x (y ⊕ e) (z ⊕ (e ⊕ f)) p
-    (⊑-≃ (y ⊕ e) ((z ⊕ f) ⊕ e) (z ⊕ (e ⊕ f)) (⊕-mono y (z ⊕ f) e e q (⊑_refl e)) (omega arith))
+    (⊑-≃ (y ⊕ e) ((z ⊕ f) ⊕ e) (z ⊕ (e ⊕ f)) (⊕_mono y (z ⊕ f) e e q (⊑_refl e)) (omega arith))
 
 -- distances add up
 pub within_trans : (e f x y z : Fraction) → Within e x y → Within f y z → Within (e ⊕ f) x z
@@ -147,19 +147,19 @@ within_trans e f x y z h k = record {
 
 pub within_wider : (e f x y : Fraction) → e ⊑ f → Within e x y → Within f x y
 within_wider e f x y l h = record {
-  below = ⊑_trans x (y ⊕ e) (y ⊕ f) h.below (⊕-mono y y e f (⊑_refl y) l);
-  above = ⊑_trans y (x ⊕ e) (x ⊕ f) h.above (⊕-mono x x e f (⊑_refl x) l);
+  below = ⊑_trans x (y ⊕ e) (y ⊕ f) h.below (⊕_mono y y e f (⊑_refl y) l);
+  above = ⊑_trans y (x ⊕ e) (x ⊕ f) h.above (⊕_mono x x e f (⊑_refl x) l);
 }
 
 -- another form of either number
 pub within-≃ : (e x y z : Fraction) → Within e x y → y ≃ z → Within e x z
 within-≃ e x y z h p = record {
-  below = ⊑_trans x (y ⊕ e) (z ⊕ e) h.below (⊕-mono y z e e (≃→⊑ y z p) (⊑_refl e));
-  above = ≃-⊑ z y (x ⊕ e) (≃-sym y z p) h.above;
+  below = ⊑_trans x (y ⊕ e) (z ⊕ e) h.below (⊕_mono y z e e (≃→⊑ y z p) (⊑_refl e));
+  above = ≃-⊑ z y (x ⊕ e) (≃_sym y z p) h.above;
 }
 
-pub ≃-within : (e x y z : Fraction) → x ≃ y → Within e y z → Within e x z
-≃-within e x y z p h = within_sym e z x (within-≃ e z y x (within_sym e y z h) (≃-sym x y p))
+pub ≃_within : (e x y z : Fraction) → x ≃ y → Within e y z → Within e x z
+≃_within e x y z p h = within_sym e z x (within-≃ e z y x (within_sym e y z h) (≃_sym x y p))
 
 -- ---- whole numbers
 
@@ -196,13 +196,13 @@ pub fraction_laws : FractionLaws
 fraction_laws = record {
   reflexive = ⊑_refl;
   transitive = ⊑_trans;
-  antisymmetric = ⊑-antisym;
-  sums_keep_order = ⊕-mono;
-  products_keep_order = ⊗-mono;
-  sums_commute = ⊕-comm;
-  sums_associate = ⊕-assoc;
-  products_commute = ⊗-comm;
-  products_associate = ⊗-assoc;
+  antisymmetric = ⊑_antisym;
+  sums_keep_order = ⊕_mono;
+  products_keep_order = ⊗_mono;
+  sums_commute = ⊕_comm;
+  sums_associate = ⊕_assoc;
+  products_commute = ⊗_comm;
+  products_associate = ⊗_assoc;
   products_distribute = ⊗-⊕;
   nothing_added = λ x. omega arith;
   once = λ x. omega arith;

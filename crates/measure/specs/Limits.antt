@@ -1,4 +1,4 @@
--- The limits of heights, volumes and densities.
+-- The limits of heights and volumes.
 use Rattle.std.specs.Prelude.{ℕ}
 
 -- heights and levels, in tenths of a millimetre
@@ -12,10 +12,3 @@ largest_reach = 400001
 -- the litres of a table
 abbrev pub largest_litres : ℕ
 largest_litres = 200000000
-
--- densities, in half kilograms per cubic metre at 15 °C
-abbrev pub least_density : ℕ
-least_density = 1000
-
-abbrev pub greatest_density : ℕ
-greatest_density = 2400

@@ -1,4 +1,4 @@
-//! The limits of heights, volumes and densities. specs/Limits.antt states the same numbers for contracts.
+//! The limits of heights and volumes. specs/Limits.antt states the same numbers for contracts.
 
 /// Heights and levels are whole tenths of a millimetre, from 0 to this.
 pub const HIGHEST_LEVEL: u32 = 400_000;
@@ -8,8 +8,3 @@ pub const LARGEST_REACH: u32 = 400_001;
 
 /// The litres of a table are from 0 to this.
 pub const LARGEST_LITRES: u32 = 200_000_000;
-
-/// Densities are half kilograms per cubic metre at 15 °C, from this to the next.
-pub const LEAST_DENSITY: u32 = 1_000;
-
-pub const GREATEST_DENSITY: u32 = 2_400;

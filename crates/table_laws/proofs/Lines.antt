@@ -2,7 +2,7 @@
 use Rattle.std.proofs.Common.{◌≡◌, ℕ, zero, suc, ◌+◌, ◌-◌, ◌*◌, ◌<◌, ◌≤◌, true, leb, List, [], ◌∷◌, length, sym, ap, ◌∙◌, subst, not-suc-le-zero, add-one, arith}
 use Rattle.std.proofs.lemmas.Bool.{le-leb, leb-true, cond-true, cond_both}
 use Rattle.measure.specs.Fractions.{Fraction, natural, over, ◌⊕◌, ◌≃◌}
-use Rattle.measure.specs.FractionLaws.{≃-refl, ≃-sym, ≃-trans}
+use Rattle.measure.specs.FractionLaws.{≃_refl, ≃_sym, ≃_trans}
 use Rattle.capacity.specs.declared.row.Row.{Row}
 use Rattle.capacity.specs.Rows.{sound, line, volume_above, rows_volume}
 use Rattle.capacity.specs.RowLaws.{Rises, Clear, next_rises, first_sound, run_some, line_is}
@@ -36,7 +36,7 @@ line_bottom low high h r e =
 straight : (j : ℕ) (low : Row) (rows : List Row) (i h : ℕ) → Clear j low rows → i < length rows → (row_at (low ∷ rows) i).height ≤ h → h ≤ (row_at rows i).height → volume_above low rows h ≃ line (row_at (low ∷ rows) i) (row_at rows i) h
 straight j low [] i h clear inside from to = absurd (not-suc-le-zero inside)
 straight j low (next ∷ rows) zero h clear inside from to =
-    subst (λ (v : Fraction). v ≃ line low next h) (sym (cond-true (leb h next.height) (line low next h) (volume_above next rows h) (le-leb h next.height to))) (≃-refl (line low next h))
+    subst (λ (v : Fraction). v ≃ line low next h) (sym (cond-true (leb h next.height) (line low next h) (volume_above next rows h) (le-leb h next.height to))) (≃_refl (line low next h))
 straight j low (next ∷ rows) (suc i) h clear inside from to =
     let rest = next_rises j low next rows clear in
     cond_both (leb h next.height) (line low next h) (volume_above next rows h) (λ v. v ≃ line (row_at (next ∷ rows) i) (row_at rows i) h)
@@ -47,9 +47,9 @@ straight j low (next ∷ rows) (suc i) h clear inside from to =
     met : (i : ℕ) → suc i < length (next ∷ rows) → (row_at (next ∷ rows) i).height ≤ h → h ≤ (row_at rows i).height → Rises low next → Clear (j + 1) next rows → h ≤ next.height → line low next h ≃ line (row_at (next ∷ rows) i) (row_at rows i) h
     met zero inside from to r clear below =
         let at_row : h ≡ next.height = omega arith in
-        ≃-trans (line low next h) (natural next.litres) (line next (row_at rows 0) h)
+        ≃_trans (line low next h) (natural next.litres) (line next (row_at rows 0) h)
         (line_top low next h r at_row)
-        (≃-sym (line next (row_at rows 0) h) (natural next.litres) (line_bottom next (row_at rows 0) h (rises_above (j + 1) next rows 0 clear (omega arith)) at_row))
+        (≃_sym (line next (row_at rows 0) h) (natural next.litres) (line_bottom next (row_at rows 0) h (rises_above (j + 1) next rows 0 clear (omega arith)) at_row))
     met (suc i) inside from to r clear below =
         let first = rises_above (j + 1) next rows 0 clear (omega arith) in
         let step = first.height_rises in

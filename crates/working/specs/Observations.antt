@@ -1,6 +1,6 @@
 -- The limits of what a reading is worked out from.
 use Rattle.std.specs.Prelude.{ℕ, ◌≤◌}
-use Rattle.measure.specs.Limits.{least_density, greatest_density}
+use Rattle.product.specs.Rules.{least_density, greatest_density}
 use Rattle.working.specs.Limits.{largest_shell, most_tenths, most_coefficient}
 
 -- the table at the water answers no more than at the level

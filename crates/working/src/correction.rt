@@ -3,7 +3,7 @@ ghost use Rattle.std.specs.Prelude.{◌≡◌, ◌≤◌, pos, negsuc, ◌≤ℤ
 ghost use Rattle.working.specs.Limits.{most_coefficient};
 ghost use Rattle.working.specs.Steps.{expansion, exponent, correction};
 
-use super::product::product;
+use super::exact_product::product;
 use measure::rounding::rounded_signed_quotient;
 
 const UNIT: i64 = 1_000_000_000;
@@ -13,7 +13,8 @@ const TERMS: u64 = 12;
 
 /// Coefficient times offset, in units of 10^-9.
 pub(crate) fn expansion(coefficient: u64, offset: i64) -> i64
-    requires { (coefficient ≤ most_coefficient) × ((negsuc 549999999 ≤ℤ offset) × (offset ≤ℤ pos 1350000000)) }
+    requires { (coefficient ≤ most_coefficient)
+        × ((negsuc 549999999 ≤ℤ offset) × (offset ≤ℤ pos 1350000000)) }
     ensures value { result ≡ Rattle.working.specs.Steps.expansion coefficient offset }
     ensures least { negsuc 109999999 ≤ℤ result }
     ensures most { result ≤ℤ pos 270000000 }

@@ -3,12 +3,12 @@
 
 mod correction;
 pub mod element;
+mod exact_product;
 pub mod figures;
 pub mod liquid;
 mod mass;
 pub mod method;
 pub mod observation;
-mod product;
 pub mod temperature;
 mod volume;
 mod wall;

@@ -1,6 +1,6 @@
 //! Mass in kilograms, from the standard volume.
 ghost use Rattle.std.specs.Prelude.{◌≡◌, ◌≤◌, pos};
-ghost use Rattle.measure.specs.Limits.{least_density, greatest_density};
+ghost use Rattle.product.specs.Rules.{least_density, greatest_density};
 ghost use Rattle.working.specs.Limits.{most_standard, most_mass};
 ghost use Rattle.working.specs.Methods.{mass};
 
@@ -9,7 +9,8 @@ use measure::rounding::rounded_quotient;
 
 /// A density is in half kilograms per cubic metre, so five of them are tenths of a kilogram; air takes off 11 tenths.
 pub(crate) fn mass(method: Method, standard: u64, density: u32) -> u64
-    requires { (standard ≤ most_standard) × ((least_density ≤ density) × (density ≤ greatest_density)) }
+    requires { (standard ≤ most_standard)
+        × ((least_density ≤ density) × (density ≤ greatest_density)) }
     ensures value { pos result ≡ Rattle.working.specs.Methods.mass method (pos standard) density }
     ensures bound { result ≤ most_mass }
 {

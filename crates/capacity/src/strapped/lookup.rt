@@ -31,7 +31,8 @@ impl<'a> CapacityTable for Strapped<'a> {
 /// The first row above the bottom one that is not below the height, found by halving.
 fn upper_row(rows: &[Row], height: u32) -> Result<usize, Refusal>
     requires { sound rows.now ≡ true }
-    ensures { MatchResult result (Upper rows.now height) (λ e. (e ≡ not_covered height) × (rows_reach rows.now ≤ height)) }
+    ensures { MatchResult result (Upper rows.now height)
+        (λ e. (e ≡ not_covered height) × (rows_reach rows.now ≤ height)) }
 {
     let count = rows.len();
     if count == 0 || height > rows[count - 1].height {

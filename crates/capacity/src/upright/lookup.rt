@@ -16,7 +16,10 @@ const HEIGHTS_PER_METRE: u64 = 10_000;
 impl Upright {
     /// A tank over a limit is refused, the height first, and nothing is made.
     pub fn new(height: u32, litres_per_metre: u32) -> Result<Upright, Refusal>
-        ensures { MatchResult result (λ t. (upright_refusal height litres_per_metre ≡ None) × (t.height ≡ height) × (t.litres_per_metre ≡ litres_per_metre)) (λ e. upright_refusal height litres_per_metre ≡ Some e) }
+        ensures { MatchResult result
+            (λ t. (upright_refusal height litres_per_metre ≡ None)
+            × (t.height ≡ height) × (t.litres_per_metre ≡ litres_per_metre))
+            (λ e. upright_refusal height litres_per_metre ≡ Some e) }
     {
         if height > HIGHEST_LEVEL {
             return Err(Cause::UprightLimit.at(i64::from(height)));

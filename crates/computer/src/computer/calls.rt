@@ -37,8 +37,12 @@ impl<G: Gauge, T: CapacityTable, P: ProductRule> TankComputer<G, T, P> {
     pub fn adopt(&mut self, table: T, date: u32) -> Result<(), Refusal>
     where
         T: Drop,
-        ensures answer { result ≡ done_unless (adopt_refusal (meanings G.Gauge.meaning T.CapacityTable.meaning P.ProductRule.meaning) (ledger_of self.old) table date) }
-        ensures after { ledger_of self.new ≡ after_adopt (meanings G.Gauge.meaning T.CapacityTable.meaning P.ProductRule.meaning) (ledger_of self.old) table date }
+        ensures answer { result ≡ done_unless (adopt_refusal
+            (meanings G.Gauge.meaning T.CapacityTable.meaning P.ProductRule.meaning)
+            (ledger_of self.old) table date) }
+        ensures after { ledger_of self.new ≡ after_adopt
+            (meanings G.Gauge.meaning T.CapacityTable.meaning P.ProductRule.meaning)
+            (ledger_of self.old) table date }
     {
         if date <= self.date {
             return Err(Cause::DateNotLater.at(i64::from(date)));
@@ -54,7 +58,9 @@ impl<G: Gauge, T: CapacityTable, P: ProductRule> TankComputer<G, T, P> {
     /// Hands a sample to the gauge.
     pub fn sample(&mut self, sample: Sample) -> Result<(), Refusal>
         ensures answer { result ≡ done_unless (sample_refusal sample) }
-        ensures after { ledger_of self.new ≡ after_sample (meanings G.Gauge.meaning T.CapacityTable.meaning P.ProductRule.meaning) (ledger_of self.old) sample }
+        ensures after { ledger_of self.new ≡ after_sample
+            (meanings G.Gauge.meaning T.CapacityTable.meaning P.ProductRule.meaning)
+            (ledger_of self.old) sample }
     {
         if let Some(number) = sample.first_wrong() {
             return Err(Cause::SampleOutside.at(i64::from(number)));
@@ -81,8 +87,12 @@ impl<G: Gauge, T: CapacityTable, P: ProductRule> TankComputer<G, T, P> {
 
     /// Sets the density, in half kilograms per cubic metre at 15 °C, where the product rule covers it.
     pub fn density(&mut self, density: u32) -> Result<(), Refusal>
-        ensures answer { result ≡ done_unless (density_refused (meanings G.Gauge.meaning T.CapacityTable.meaning P.ProductRule.meaning) (ledger_of self.old) density) }
-        ensures after { ledger_of self.new ≡ after_density (meanings G.Gauge.meaning T.CapacityTable.meaning P.ProductRule.meaning) (ledger_of self.old) density }
+        ensures answer { result ≡ done_unless (density_refused
+            (meanings G.Gauge.meaning T.CapacityTable.meaning P.ProductRule.meaning)
+            (ledger_of self.old) density) }
+        ensures after { ledger_of self.new ≡ after_density
+            (meanings G.Gauge.meaning T.CapacityTable.meaning P.ProductRule.meaning)
+            (ledger_of self.old) density }
     {
         let _coefficient = self.rule.coefficient(density)?;
         self.density = Some(density);

@@ -17,7 +17,12 @@ impl<G: Gauge, T: CapacityTable, P: ProductRule> TankComputer<G, T, P> {
     /// A reading by method 1 or 2, or the first cause against it: the method, the gauge, the density, the height of the
     /// level, the water, the probe. The density that was set is one that the rule covers.
     pub fn read(&self, method: u32) -> Result<Reading, Refusal>
-        ensures { DensityCovered (meanings G.Gauge.meaning T.CapacityTable.meaning P.ProductRule.meaning) (ledger_of self.now) → ReadAnswer (meanings G.Gauge.meaning T.CapacityTable.meaning P.ProductRule.meaning) (ledger_of self.now) method result }
+        ensures { DensityCovered
+            (meanings G.Gauge.meaning T.CapacityTable.meaning P.ProductRule.meaning)
+            (ledger_of self.now)
+            → ReadAnswer
+            (meanings G.Gauge.meaning T.CapacityTable.meaning P.ProductRule.meaning)
+            (ledger_of self.now) method result }
     {
         let method = Method::of(method)?;
         let level = self.gauge.tell()?;

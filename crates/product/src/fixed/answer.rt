@@ -12,7 +12,9 @@ const LARGEST_FIXED: u32 = 20_000;
 impl FixedCoefficient {
     /// A value over 20,000 is refused, and nothing is made.
     pub fn new(value: u32) -> Result<FixedCoefficient, Refusal>
-        ensures { MatchResult result (λ p. (fixed_refusal value ≡ None) × (p.value ≡ value)) (λ e. fixed_refusal value ≡ Some e) }
+        ensures { MatchResult result
+            (λ p. (fixed_refusal value ≡ None) × (p.value ≡ value))
+            (λ e. fixed_refusal value ≡ Some e) }
     {
         if value > LARGEST_FIXED {
             return Err(Cause::CoefficientLimit.at(i64::from(value)));

@@ -3,7 +3,7 @@ ghost use Rattle.std.specs.Prelude.{◌≡◌};
 ghost use Rattle.working.specs.Averages.{average};
 ghost use Rattle.working.specs.AverageLaws.{AverageLaws};
 
-use super::super::product::product;
+use super::super::exact_product::product;
 use super::super::temperature::Temperature;
 use super::Liquid;
 use measure::rounding::rounded_signed_quotient;
