@@ -5,6 +5,6 @@ run:
 	cd crates/depot && rt run >/dev/null
 	crates/depot/out/depot examples/tank-7.journal
 
-# The gate: proofs from nothing, must-fail edits, compile refusals, programs and tests.
+# The gate: proofs, must-fail edits, compile refusals, programs and tests.
 test:
 	.ci/run
