@@ -1,7 +1,7 @@
 #!/usr/bin/env python3
 """Random and extreme journals through `depot --raw` and through the model, which must agree on every line and on the status.
 
-    python3 tests/compare_readings.py [JOURNALS [SEED]]      default 300 journals, seed 1; needs target/bin/depot
+    python3 tests/compare_readings.py [JOURNALS [SEED]]      default 300 journals, seed 1; needs crates/depot/out/depot
 
 The first difference ends it: the journal stays in a temporary file, and both lines are printed.
 """
@@ -15,7 +15,7 @@ import tempfile
 import reading_model
 from dip_model import Survey
 
-DEPOT = os.path.join(os.path.dirname(os.path.abspath(__file__)), '..', 'target', 'bin', 'depot')
+DEPOT = os.path.join(os.path.dirname(os.path.abspath(__file__)), '..', 'crates', 'depot', 'out', 'depot')
 HIGHEST = 400_000
 WORD = 2 ** 32 - 1
 REFUSALS = [*range(10, 14), *range(20, 26), 30, 31, *range(40, 44), *range(50, 57)]
