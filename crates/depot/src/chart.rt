@@ -71,7 +71,7 @@ fn write_heading<W: Write>(
             height,
             litres_per_metre,
         } => {
-            let height = Tenths(i64::from(height));
+            let height = Tenths::from(height);
             write!(
                 out,
                 "Survey {date}, upright, {height} mm high, {litres_per_metre} litres to the metre"
@@ -79,11 +79,11 @@ fn write_heading<W: Write>(
         }
     }
     if survey.datum > 0 {
-        let datum = Tenths(i64::from(survey.datum));
+        let datum = Tenths::from(survey.datum);
         write!(out, ", datum raised by {datum} mm")?;
     }
     if survey.limit < HIGHEST_LEVEL {
-        let limit = Tenths(i64::from(survey.limit));
+        let limit = Tenths::from(survey.limit);
         write!(out, ", filled up to {limit} mm")?;
     }
     let reach = tank.reach();
@@ -92,7 +92,7 @@ fn write_heading<W: Write>(
     } else if reach == 0 {
         writeln!(out, "\n  covers no height")
     } else {
-        let highest = Tenths(i64::from(reach - 1));
+        let highest = Tenths::from(reach - 1);
         writeln!(out, "\n  covers 0.0 mm to {highest} mm")
     }
 }
@@ -104,7 +104,7 @@ fn write_dip<W: Write>(
     answer: Result<u64, Refusal>,
     style: Style,
 ) -> io::Result<()> {
-    let millimetres = Tenths(i64::from(height));
+    let millimetres = Tenths::from(height);
     match (style, answer) {
         (Style::Raw, Ok(tenths)) => writeln!(out, "{line} dip height={height} tenths={tenths}"),
         (Style::Raw, Err(refusal)) => {

@@ -3,4 +3,5 @@ pub mod Fractions
 pub mod FractionLaws
 pub mod Rounding
 pub mod RoundingLaws
+pub mod Written
 pub mod Refusals

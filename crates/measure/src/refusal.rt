@@ -10,51 +10,51 @@ use std::fmt;
 #[derive(Clone, Copy, PartialEq, Eq, Debug)]
 pub enum Cause {
     /// A gauge that holds a fault code. Place: 1,000 times the instrument, plus the code.
-    FaultHeld,
+    FaultHeld = 10,
     /// A gauge that has heard nothing. Place: the instrument, or 0 for an empty gate.
-    NothingHeard,
+    NothingHeard = 11,
     /// A gate that has lost the level. Place: the held level.
-    GateLost,
+    GateLost = 12,
     /// A sample with a number outside its limits. Place: the first such number.
-    SampleOutside,
+    SampleOutside = 13,
     /// A draft of fewer than 2 or more than 256 rows. Place: the count.
-    RowCount,
+    RowCount = 20,
     /// The first row of a draft is not at height 0. Place: 0.
-    FirstHeight,
+    FirstHeight = 21,
     /// A row that is not above the one before it, or too high. Place: the row, from 0.
-    RowHeight,
+    RowHeight = 22,
     /// A row that holds less than the one before it, or too much. Place: the row, from 0.
-    RowLitres,
+    RowLitres = 23,
     /// A height that the table or layer asked does not cover. Place: the height.
-    HeightNotCovered,
+    HeightNotCovered = 24,
     /// An upright tank that is too high, or holds too much to the metre. Place: the value.
-    UprightLimit,
+    UprightLimit = 25,
     /// A density outside the range of the product rule. Place: the density.
-    DensityOutside,
+    DensityOutside = 30,
     /// A fixed coefficient that is too large. Place: the value.
-    CoefficientLimit,
+    CoefficientLimit = 31,
     /// An element number that is not fitted. Place: the number.
-    ElementNotFitted,
+    ElementNotFitted = 40,
     /// A probe element that is not above the last one, or too high. Place: its height.
-    ElementHeight,
+    ElementHeight = 41,
     /// Another probe element where sixteen are fitted. Place: 16.
-    ProbeFull,
+    ProbeFull = 42,
     /// No good probe element between water and level. Place: the level.
-    NoElementCounts,
+    NoElementCounts = 43,
     /// A method of mass that is neither 1 nor 2. Place: the method.
-    MethodUnknown,
+    MethodUnknown = 50,
     /// A reading before a density was given. Place: 0.
-    DensityUnset,
+    DensityUnset = 51,
     /// Water that stands as high as the level, or higher. Place: the water.
-    WaterAtLevel,
+    WaterAtLevel = 52,
     /// A survey that is not later than the one in force. Place: its date.
-    DateNotLater,
+    DateNotLater = 53,
     /// A survey whose table covers nothing. Place: its date.
-    NothingCovered,
+    NothingCovered = 54,
     /// A shell coefficient that is too large. Place: the value.
-    ShellLimit,
+    ShellLimit = 55,
     /// A water height that is too large. Place: the value.
-    WaterLimit,
+    WaterLimit = 56,
 }
 
 #[derive(Clone, Copy, PartialEq, Eq, Debug)]
@@ -94,31 +94,7 @@ impl Cause {
     fn number(self) -> u8
         ensures { result ≡ number_of self }
     {
-        match self {
-            Cause::FaultHeld => 10,
-            Cause::NothingHeard => 11,
-            Cause::GateLost => 12,
-            Cause::SampleOutside => 13,
-            Cause::RowCount => 20,
-            Cause::FirstHeight => 21,
-            Cause::RowHeight => 22,
-            Cause::RowLitres => 23,
-            Cause::HeightNotCovered => 24,
-            Cause::UprightLimit => 25,
-            Cause::DensityOutside => 30,
-            Cause::CoefficientLimit => 31,
-            Cause::ElementNotFitted => 40,
-            Cause::ElementHeight => 41,
-            Cause::ProbeFull => 42,
-            Cause::NoElementCounts => 43,
-            Cause::MethodUnknown => 50,
-            Cause::DensityUnset => 51,
-            Cause::WaterAtLevel => 52,
-            Cause::DateNotLater => 53,
-            Cause::NothingCovered => 54,
-            Cause::ShellLimit => 55,
-            Cause::WaterLimit => 56,
-        }
+        self as u8
     }
 
     /// The refusal for this cause at a place.
@@ -168,171 +144,138 @@ impl Refusal {
 }
 
 /// No two causes share a number.
-pub fn causes_have_their_own_numbers() -> u8
+pub fn causes_have_their_own_numbers()
     ensures { (a b : Cause) → number_of a ≡ number_of b → a ≡ b }
-{
-    0
+{}
+
+/// The three numbers of a refusal, for other programs: layer, number and place.
+#[derive(Clone, Copy, PartialEq, Eq, Debug)]
+pub struct Numbers(Refusal);
+
+impl Refusal {
+    /// The refusal, to be written in its three numbers.
+    pub fn numbers(self) -> Numbers
+        ensures { result.0 ≡ self }
+    {
+        Numbers(self)
+    }
+}
+
+impl fmt::Display for Numbers {
+    fn fmt<W: fmt::Write>(&self, f: &mut fmt::Formatter<W>) -> fmt::Result {
+        write!(f, "{} {} {}", self.0.layer, self.0.number, self.0.place)
+    }
 }
 
 impl fmt::Display for Refusal {
     /// What was wrong, where, and what to do, with the three numbers.
     fn fmt<W: fmt::Write>(&self, f: &mut fmt::Formatter<W>) -> fmt::Result {
-        let layer = self.layer;
-        let number = self.number;
-        let place = self.place;
         match self.cause() {
-            Some(cause) => explain(f, cause, place)?,
+            Some(cause) => explain(f, cause, self.place)?,
             None => write!(f, "the call was refused")?,
         }
-        write!(f, " (layer {layer}, number {number}, place {place})")
+        write!(
+            f,
+            " (layer {}, number {}, place {})",
+            self.layer, self.number, self.place
+        )
     }
 }
 
 fn explain<W: fmt::Write>(f: &mut fmt::Formatter<W>, cause: Cause, place: i64) -> fmt::Result {
+    let tenths = Tenths::from(place);
     match cause {
-        Cause::FaultHeld => {
-            write!(
-                f,
-                "the gauge holds a fault, {place} names its instrument and code: have the instrument looked at"
-            )
-        }
-        Cause::NothingHeard => {
-            write!(
-                f,
-                "nothing has been heard from the gauge: wait for its first sample"
-            )
-        }
-        Cause::GateLost => {
-            let level = Tenths(place);
-            write!(
-                f,
-                "the level keeps jumping and is lost near {level} mm: wait until it settles"
-            )
-        }
-        Cause::SampleOutside => {
-            write!(
-                f,
-                "{place} is outside the limits of a sample: look at the instrument that sent it"
-            )
-        }
-        Cause::RowCount => {
-            write!(
-                f,
-                "a strapped table takes 2 to 256 rows and the survey has {place}: complete the survey or thin out its rows"
-            )
-        }
-        Cause::FirstHeight => {
-            write!(
-                f,
-                "the first row is not at height 0: begin the survey's rows at the datum"
-            )
-        }
-        Cause::RowHeight => {
-            write!(
-                f,
-                "row {place}, counted from 0, is not above the row before it or is above 40000.0 mm: correct its height"
-            )
-        }
-        Cause::RowLitres => {
-            write!(
-                f,
-                "row {place}, counted from 0, holds less than the row before it or more than 200000000 litres: correct its litres"
-            )
-        }
-        Cause::HeightNotCovered => {
-            let height = Tenths(place);
-            write!(
-                f,
-                "the capacity table does not cover the height {height} mm: take the dip again or survey the tank up to it"
-            )
-        }
-        Cause::DensityOutside => {
-            write!(
-                f,
-                "the product rule does not cover the density {place}, in half kilograms per cubic metre: choose the rule of the product"
-            )
-        }
-        Cause::CoefficientLimit => {
-            write!(
-                f,
-                "the fixed coefficient {place} is above 20000: correct it"
-            )
-        }
-        Cause::ElementNotFitted => {
-            write!(
-                f,
-                "probe element {place} is not fitted: fit it, or correct the number"
-            )
-        }
-        Cause::ElementHeight => {
-            let height = Tenths(place);
-            write!(
-                f,
-                "a probe element at {height} mm is not above the last one fitted or is above 40000.0 mm: fit elements from the bottom up"
-            )
-        }
-        Cause::ProbeFull => {
-            write!(
-                f,
-                "{place} probe elements are fitted, and there is no room for another: leave it out"
-            )
-        }
-        Cause::NoElementCounts => {
-            let level = Tenths(place);
-            write!(
-                f,
-                "no good probe element lies between the water and the level {level} mm: wait for a temperature, or fit an element lower"
-            )
-        }
-        Cause::MethodUnknown => {
-            write!(
-                f,
-                "{place} is no method of mass: ask for method 1, or for method 2, the mass in air"
-            )
-        }
-        Cause::DensityUnset => {
-            write!(
-                f,
-                "no density has been given: give the density of the product"
-            )
-        }
-        Cause::WaterAtLevel => {
-            let water = Tenths(place);
-            write!(
-                f,
-                "the water stands at {water} mm, as high as the level or higher: take the water dip again"
-            )
-        }
-        Cause::DateNotLater => {
-            write!(
-                f,
-                "the survey of {place} is not later than the one in force: adopt only a newer survey"
-            )
-        }
-        Cause::NothingCovered => {
-            write!(
-                f,
-                "the table of the survey of {place} covers no height: correct its datum, its limit or its rows"
-            )
-        }
-        Cause::ShellLimit => {
-            write!(
-                f,
-                "the shell coefficient {place} is above 300: give it in units of 10^-7 per degree"
-            )
-        }
-        Cause::WaterLimit => {
-            let water = Tenths(place);
-            write!(
-                f,
-                "the water height {water} mm is above 40000.0 mm: take the water dip again"
-            )
-        }
-        Cause::UprightLimit => {
-            write!(
-                f,
-                "{place} is too much for an upright tank, at most 40000.0 mm high and 5000000 litres to the metre: correct the survey"
-            )
-        }
+        Cause::FaultHeld => write!(
+            f,
+            "the gauge holds a fault, {place} names its instrument and code: have the instrument looked at"
+        ),
+        Cause::NothingHeard => write!(
+            f,
+            "nothing has been heard from the gauge: wait for its first sample"
+        ),
+        Cause::GateLost => write!(
+            f,
+            "the level keeps jumping and is lost near {tenths} mm: wait until it settles"
+        ),
+        Cause::SampleOutside => write!(
+            f,
+            "{place} is outside the limits of a sample: look at the instrument that sent it"
+        ),
+        Cause::RowCount => write!(
+            f,
+            "a strapped table takes 2 to 256 rows and the survey has {place}: complete the survey or thin out its rows"
+        ),
+        Cause::FirstHeight => write!(
+            f,
+            "the first row is not at height 0: begin the survey's rows at the datum"
+        ),
+        Cause::RowHeight => write!(
+            f,
+            "row {place}, counted from 0, is not above the row before it or is above 40000.0 mm: correct its height"
+        ),
+        Cause::RowLitres => write!(
+            f,
+            "row {place}, counted from 0, holds less than the row before it or more than 200000000 litres: correct its litres"
+        ),
+        Cause::HeightNotCovered => write!(
+            f,
+            "the capacity table does not cover the height {tenths} mm: take the dip again or survey the tank up to it"
+        ),
+        Cause::DensityOutside => write!(
+            f,
+            "the product rule does not cover the density {place}, in half kilograms per cubic metre: choose the rule of the product"
+        ),
+        Cause::CoefficientLimit => write!(
+            f,
+            "the fixed coefficient {place} is above 20000: correct it"
+        ),
+        Cause::ElementNotFitted => write!(
+            f,
+            "probe element {place} is not fitted: fit it, or correct the number"
+        ),
+        Cause::ElementHeight => write!(
+            f,
+            "a probe element at {tenths} mm is not above the last one fitted or is above 40000.0 mm: fit elements from the bottom up"
+        ),
+        Cause::ProbeFull => write!(
+            f,
+            "{place} probe elements are fitted, and there is no room for another: leave it out"
+        ),
+        Cause::NoElementCounts => write!(
+            f,
+            "no good probe element lies between the water and the level {tenths} mm: wait for a temperature, or fit an element lower"
+        ),
+        Cause::MethodUnknown => write!(
+            f,
+            "{place} is no method of mass: ask for method 1, or for method 2, the mass in air"
+        ),
+        Cause::DensityUnset => write!(
+            f,
+            "no density has been given: give the density of the product"
+        ),
+        Cause::WaterAtLevel => write!(
+            f,
+            "the water stands at {tenths} mm, as high as the level or higher: take the water dip again"
+        ),
+        Cause::DateNotLater => write!(
+            f,
+            "the survey of {place} is not later than the one in force: adopt only a newer survey"
+        ),
+        Cause::NothingCovered => write!(
+            f,
+            "the table of the survey of {place} covers no height: correct its datum, its limit or its rows"
+        ),
+        Cause::ShellLimit => write!(
+            f,
+            "the shell coefficient {place} is above 300: give it in units of 10^-7 per degree"
+        ),
+        Cause::WaterLimit => write!(
+            f,
+            "the water height {tenths} mm is above 40000.0 mm: take the water dip again"
+        ),
+        Cause::UprightLimit => write!(
+            f,
+            "{place} is too much for an upright tank, at most 40000.0 mm high and 5000000 litres to the metre: correct the survey"
+        ),
     }
 }

@@ -22,8 +22,8 @@ fn refusals(rt: HostRuntime) -> Result<(), Fail> {
 
 #[test]
 fn tenths(rt: HostRuntime) -> Result<(), Fail> {
-    assert!(rt; Tenths(15).to_string(rt.alloc())?.as_str() == "1.5");
-    assert!(rt; Tenths(-3).to_string(rt.alloc())?.as_str() == "-0.3");
-    assert!(rt; Tenths(i64::MIN).to_string(rt.alloc())?.as_str() == "-922337203685477580.8");
+    assert!(rt; Tenths::from(15_u64).to_string(rt.alloc())?.as_str() == "1.5");
+    assert!(rt; Tenths::from(-3_i64).to_string(rt.alloc())?.as_str() == "-0.3");
+    assert!(rt; Tenths::from(i64::MIN).to_string(rt.alloc())?.as_str() == "-922337203685477580.8");
     Ok(())
 }
