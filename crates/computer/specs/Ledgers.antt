@@ -1,11 +1,10 @@
 -- The ledger of a tank computer: what it knows, kept from what commissioning was given and the calls alone.
-use Rattle.std.specs.Prelude.{ℕ, List, [], None, Option}
+use Rattle.std.specs.Prelude.{◌≡◌, ℕ, ◌≤◌, true, List, [], Some, None, Option}
 use Rattle.capacity.specs.Tables.{TableMeaning}
 use Rattle.gauge.specs.Gauges.{GaugeMeaning}
-use Rattle.product.specs.Rules.{RuleMeaning}
+use Rattle.product.specs.Rules.{RuleMeaning, covered}
+use Rattle.working.specs.Limits.{largest_shell}
 use Rattle.probe.specs.declared.element.ProbeElement.{ProbeElement}
-use Rattle.probe.specs.Probes.{fitted_in}
-use Rattle.computer.specs.declared.computer.TankComputer.{TankComputer}
 
 -- what the gauge, the capacity table and the product rule of a computer mean
 pub record Meanings (G T P : Type 0) : Type 0 where
@@ -34,5 +33,12 @@ pub record Ledger (G T P : Type 0) : Type 0 where
 abbrev pub commissioned : {G T P : Type 0} → ℕ → G → T → ℕ → P → Ledger G T P
 commissioned tank gauge table date rule = record { tank = tank; date = date; table = table; gauge = gauge; rule = rule; elements = []; density = None; shell = 0; water = 0 }
 
-abbrev pub ledger_of : {G T P : Type 0} → TankComputer G T P → Ledger G T P
-ledger_of c = record { tank = c.tank; date = c.date; table = c.table; gauge = c.gauge; rule = c.rule; elements = fitted_in c.probe; density = c.density; shell = c.shell; water = c.water }
+-- the density, where one was set, is one that the rule covers: it is refused otherwise
+abbrev density_covered : {P : Type 0} → RuleMeaning P → P → Option ℕ → Type 0
+density_covered m rule None = Unit {0}
+density_covered m rule (Some r) = covered m rule r ≡ true
+
+-- what holds of every ledger of a computer: its shell coefficient and its density were admitted
+pub record Admitted {P : Type 0} (m : RuleMeaning P) (rule : P) (density : Option ℕ) (shell : ℕ) : Type 0 where
+  pub density_is_covered : density_covered m rule density
+  pub shell_is_within : shell ≤ largest_shell

@@ -1,10 +1,10 @@
 -- What a read answers: the first of six causes, or a reading with every figure by its rule.
-use Rattle.std.specs.Prelude.{◌≡◌, ℕ, ◌-◌, true, not, List, ℤ, pos, Some, None, Ok, Err, Option, Result, count_ones, nat_le}
+use Rattle.std.specs.Prelude.{◌≡◌, ℕ, ◌-◌, not, List, ℤ, pos, Some, None, Ok, Err, Option, Result, count_ones, nat_le}
 use Rattle.measure.specs.declared.refusal.Refusal.{Refusal}
 use Rattle.measure.specs.declared.refusal.Cause.TheVariants.{DensityUnset, WaterAtLevel, NoElementCounts}
 use Rattle.measure.specs.Refusals.{refusal}
 use Rattle.capacity.specs.Tables.{tenths_of, answered}
-use Rattle.product.specs.Rules.{covered, million_millionths}
+use Rattle.product.specs.Rules.{million_millionths}
 use Rattle.working.specs.declared.element.CountingElement.{CountingElement}
 use Rattle.working.specs.Averages.{average, some_element}
 use Rattle.working.specs.Methods.{method_of, mass}
@@ -78,11 +78,3 @@ module _ {G T P : Type 0} where
   abbrev pub ReadAnswer : Meanings G T P → Ledger G T P → ℕ → Result Reading Refusal → Type 0
   ReadAnswer m l method (Ok x) = (read_refusal m l method ≡ None) × Carries m l method x
   ReadAnswer m l method (Err e) = read_refusal m l method ≡ Some e
-
-  -- a density that was set is one that the rule covers: it is refused otherwise
-  abbrev covered_density : Meanings G T P → Ledger G T P → Option ℕ → Type 0
-  covered_density m l None = Unit {0}
-  covered_density m l (Some r) = covered m.rule l.rule r ≡ true
-
-  abbrev pub DensityCovered : Meanings G T P → Ledger G T P → Type 0
-  DensityCovered m l = covered_density m l l.density

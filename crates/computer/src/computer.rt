@@ -1,20 +1,20 @@
 //! A tank computer, from commissioning on.
-ghost use Rattle.std.specs.Prelude.{◌≤◌};
-ghost use Rattle.working.specs.Limits.{largest_shell};
-
+use super::dated_table::DatedTable;
+use capacity::table::CapacityTable;
+use gauge::gauge_trait::Gauge;
 use probe::probe::Probe;
+use product::rule::ProductRule;
+use std::marker::Model;
 
 pub mod calls;
 pub mod reads;
 
-/// Generic in its gauge, its capacity table and its product rule. The survey's date is YYYYMMDD; the calendar is not
-/// checked.
+/// Generic in its gauge, its capacity table and its product rule.
 #[derive(Drop)]
-pub struct TankComputer<G, T, P> {
+pub struct TankComputer<G: Gauge, T: CapacityTable, P: ProductRule> {
     tank: u32,
-    date: u32,
     gauge: G,
-    table: T,
+    survey: DatedTable<T>,
     rule: P,
     probe: Probe,
     density: Option<u32>,
@@ -22,5 +22,29 @@ pub struct TankComputer<G, T, P> {
     shell: u32,
     /// A height in tenths of a millimetre.
     water: u32,
-    ghost within: { shell ≤ largest_shell },
+}
+
+/// A computer is its ledger.
+impl<G: Gauge, T: CapacityTable, P: ProductRule> Model for TankComputer<G, T, P> {
+    ghost use Rattle.computer.specs.Ledgers.{Ledger};
+
+    ghost Value = { Ledger G T P };
+
+    ghost use Rattle.probe.specs.Probes.{fitted_in};
+
+    ghost view = { λ c. record {
+      tank = c.tank;
+      date = c.survey.date;
+      table = c.survey.table;
+      gauge = c.gauge;
+      rule = c.rule;
+      elements = fitted_in c.probe;
+      density = c.density;
+      shell = c.shell;
+      water = c.water;
+    } };
+
+    ghost use Rattle.computer.specs.Ledgers.{Admitted};
+
+    ghost invariant = { λ c. Admitted P.ProductRule.meaning c.rule c.density c.shell };
 }

@@ -2,4 +2,5 @@
 #![tactic(auto)]
 
 pub mod computer;
+pub mod dated_table;
 pub mod reading;

@@ -1,38 +1,10 @@
 -- What every history keeps, and the answers of a run by their places.
-use Rattle.std.proofs.Common.{◌≡◌, ℕ, zero, suc, ◌<◌, true, List, [], ◌∷◌, ◌++◌, length, get_or, take, Some, None, Ok, Err, Option, Result, sym, refl, ap, ◌∙◌, subst, append_assoc, append-nil, not-suc-le-zero, arith}
-use Rattle.measure.specs.declared.refusal.Refusal.{Refusal}
-use Rattle.probe.specs.Probes.{unless_refused}
-use Rattle.product.specs.Rules.{answered, covered}
+use Rattle.std.proofs.Common.{◌≡◌, ℕ, zero, suc, ◌<◌, List, [], ◌∷◌, ◌++◌, length, get_or, take, sym, refl, ap, ◌∙◌, subst, append_assoc, append-nil, not-suc-le-zero, arith}
 use Rattle.computer.specs.Ledgers.{Meanings, Ledger}
-use Rattle.computer.specs.Calls.{adopt_refusal, sample_refusal, density_refused, shell_refused, water_refused, refusal_in}
-use Rattle.computer.specs.Readings.{DensityCovered}
-use Rattle.computer.proofs.Observed.{rule_told}
 use Rattle.history.specs.declared.call.Call.{Call}
-use Rattle.history.specs.declared.call.Call.TheVariants.{Adopt, Sample, Water, Fit, Element, Density, Shell, Read}
-use Rattle.history.specs.declared.call.Answer.{Answer}
-use Rattle.history.specs.Histories.{step, ledger_after, AnswerOf, Answered, Ran}
-
--- what holds of a ledger as it was and as it is after a served call holds of it after the call
-kept : {X : Type 0} (Holds : X → Type 0) (refused : Option Refusal) (before after : X) → Holds before → (refused ≡ None → Holds after) → Holds (unless_refused refused before after)
-kept Holds None before after h k = k refl
-kept Holds (Some e) before after h k = h
+use Rattle.history.specs.Histories.{Answer, step, ledger_after, AnswerOf, Answered, Ran}
 
 module _ {G T P : Type 0} (m : Meanings G T P) where
-  -- a density that was set is one that the rule covers
-  served_density : (l : Ledger G T P) (r : ℕ) (told : Result ℕ Refusal) → answered m.rule l.rule r ≡ told → refusal_in told ≡ None → covered m.rule l.rule r ≡ true
-  served_density l r (Ok n) e none = (rule_told m.rule l.rule r n e).within
-  served_density l r (Err fault) e none = let z : ◌≡◌ {A = ℕ} 0 1 = cc in absurd (omega arith)
-
-  pub density_kept : (l : Ledger G T P) (call : Call T) → DensityCovered m l → DensityCovered m (step m l call)
-  density_kept l (Adopt table date) h = kept (DensityCovered m) (adopt_refusal m l table date) l _ h (λ _. h)
-  density_kept l (Sample sample) h = kept (DensityCovered m) (sample_refusal sample) l _ h (λ _. h)
-  density_kept l (Water height) h = kept (DensityCovered m) (water_refused height) l _ h (λ _. h)
-  density_kept l (Fit height) h = h
-  density_kept l (Element number hundredths) h = h
-  density_kept l (Density density) h = kept (DensityCovered m) (density_refused m l density) l _ h (λ none. served_density l density (answered m.rule l.rule density) refl none)
-  density_kept l (Shell shell) h = kept (DensityCovered m) (shell_refused shell) l _ h (λ _. h)
-  density_kept l (Read method) h = h
-
   -- ---- a loop over the calls
 
   -- right answers to the calls left make right answers to all of them, after those that are there

@@ -7,19 +7,24 @@ use Rattle.computer.specs.Calls.{adopt_refusal, after_adopt, sample_refusal, aft
 use Rattle.computer.specs.Readings.{read_refusal, Carries}
 use Rattle.history.specs.declared.call.Call.{Call}
 use Rattle.history.specs.declared.call.Call.TheVariants.{Adopt, Sample, Water, Fit, Element, Density, Shell, Read}
-use Rattle.history.specs.declared.call.Answer.{Answer}
-use Rattle.history.specs.declared.call.Answer.TheVariants.{Done, Refused, Reading as ReadingAnswer}
+use Rattle.history.specs.declared.call.Outcome.{Outcome}
+use Rattle.history.specs.declared.call.Outcome.TheVariants.{Done, Reading as ReadingOutcome}
 
+-- a call is served, or refused
+abbrev pub Answer : Type 0
+Answer = Result Outcome Refusal
+
+-- what a call answers of which we know whether it was served
 abbrev pub as_answer : Result (Unit {0}) Refusal → Answer
-as_answer (Ok done) = Done
-as_answer (Err e) = Refused e
+as_answer (Ok done) = Ok Done
+as_answer (Err e) = Err e
 
 module _ {G T P : Type 0} where
   -- ---- the ledger
 
   -- after one call
   abbrev pub step : Meanings G T P → Ledger G T P → Call T → Ledger G T P
-  step m l (Adopt table date) = after_adopt m l table date
+  step m l (Adopt survey) = after_adopt m l survey.table survey.date
   step m l (Sample sample) = after_sample m l sample
   step m l (Water height) = after_water l height
   step m l (Fit height) = after_fit l height
@@ -37,13 +42,13 @@ module _ {G T P : Type 0} where
 
   -- a read answers a reading that carries what the ledger gives where no cause holds, and else the first cause
   abbrev pub ReadAnswered : Meanings G T P → Ledger G T P → ℕ → Answer → Type 0
-  ReadAnswered m l method Done = ⊥
-  ReadAnswered m l method (Refused e) = read_refusal m l method ≡ Some e
-  ReadAnswered m l method (ReadingAnswer x) = (read_refusal m l method ≡ None) × Carries m l method x
+  ReadAnswered m l method (Err e) = read_refusal m l method ≡ Some e
+  ReadAnswered m l method (Ok Done) = ⊥
+  ReadAnswered m l method (Ok (ReadingOutcome x)) = (read_refusal m l method ≡ None) × Carries m l method x
 
   -- every other call is done where no cause holds against it, and else refused with the first
   abbrev pub AnswerOf : Meanings G T P → Ledger G T P → Call T → Answer → Type 0
-  AnswerOf m l (Adopt table date) a = a ≡ as_answer (done_unless (adopt_refusal m l table date))
+  AnswerOf m l (Adopt survey) a = a ≡ as_answer (done_unless (adopt_refusal m l survey.table survey.date))
   AnswerOf m l (Sample sample) a = a ≡ as_answer (done_unless (sample_refusal sample))
   AnswerOf m l (Water height) a = a ≡ as_answer (done_unless (water_refused height))
   AnswerOf m l (Fit height) a = a ≡ as_answer (done_unless (fit_refused l height))

@@ -1,12 +1,12 @@
 //! A call of a tank computer as a value, and its answer.
+use computer::dated_table::DatedTable;
 use computer::reading::Reading;
 use gauge::sample::Sample;
 use measure::refusal::Refusal;
 
 #[derive(Drop)]
 pub enum Call<T> {
-    /// A table and the date of its survey.
-    Adopt(T, u32),
+    Adopt(DatedTable<T>),
     Sample(Sample),
     Water(u32),
     Fit(u32),
@@ -18,9 +18,11 @@ pub enum Call<T> {
     Read(u32),
 }
 
+/// What a call gives that is served.
 #[derive(Clone, Copy)]
-pub enum Answer {
+pub enum Outcome {
     Done,
-    Refused(Refusal),
     Reading(Reading),
 }
+
+pub type Answer = Result<Outcome, Refusal>;

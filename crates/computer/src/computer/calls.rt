@@ -1,9 +1,10 @@
 //! Commissioning, and the calls that change a tank computer. A refused call changes nothing.
 ghost use Rattle.std.specs.Prelude.{◌≡◌};
 ghost use Rattle.probe.specs.Probes.{done_unless};
-ghost use Rattle.computer.specs.Ledgers.{Meanings, meanings, ledger_of, commissioned};
+ghost use Rattle.computer.specs.Ledgers.{meanings, commissioned};
 ghost use Rattle.computer.specs.Calls.{adopt_refusal, after_adopt, sample_refusal, after_sample, fit_refused, after_fit, element_refused, after_element, density_refused, after_density, shell_refused, after_shell, water_refused, after_water};
 
+use super::super::dated_table::DatedTable;
 use super::TankComputer;
 use capacity::table::CapacityTable;
 use gauge::gauge_trait::Gauge;
@@ -17,14 +18,13 @@ const LARGEST_SHELL: u32 = 300;
 
 impl<G: Gauge, T: CapacityTable, P: ProductRule> TankComputer<G, T, P> {
     /// Water and shell coefficient are 0, the density is unset, no element is fitted.
-    pub fn commission(tank: u32, gauge: G, table: T, date: u32, rule: P) -> TankComputer<G, T, P>
-        ensures { ledger_of result ≡ commissioned tank gauge table date rule }
+    pub fn commission(tank: u32, gauge: G, survey: DatedTable<T>, rule: P) -> TankComputer<G, T, P>
+        ensures { result ≡ commissioned tank gauge survey.table survey.date rule }
     {
         TankComputer {
             tank,
-            date,
             gauge,
-            table,
+            survey,
             rule,
             probe: Probe::new(),
             density: None,
@@ -34,33 +34,32 @@ impl<G: Gauge, T: CapacityTable, P: ProductRule> TankComputer<G, T, P> {
     }
 
     /// Takes a later survey's table into force. The offered table is used up either way.
-    pub fn adopt(&mut self, table: T, date: u32) -> Result<(), Refusal>
+    pub fn adopt(&mut self, survey: DatedTable<T>) -> Result<(), Refusal>
     where
         T: Drop,
         ensures answer { result ≡ done_unless (adopt_refusal
             (meanings G.Gauge.meaning T.CapacityTable.meaning P.ProductRule.meaning)
-            (ledger_of self.old) table date) }
-        ensures after { ledger_of self.new ≡ after_adopt
+            self.old survey.table survey.date) }
+        ensures after { self.new ≡ after_adopt
             (meanings G.Gauge.meaning T.CapacityTable.meaning P.ProductRule.meaning)
-            (ledger_of self.old) table date }
+            self.old survey.table survey.date }
     {
-        if date <= self.date {
-            return Err(Cause::DateNotLater.at(i64::from(date)));
+        if survey.date <= self.survey.date {
+            return Err(Cause::DateNotLater.at(i64::from(survey.date)));
         }
-        if table.reach() == 0 {
-            return Err(Cause::NothingCovered.at(i64::from(date)));
+        if survey.table.reach() == 0 {
+            return Err(Cause::NothingCovered.at(i64::from(survey.date)));
         }
-        self.table = table;
-        self.date = date;
+        self.survey = survey;
         Ok(())
     }
 
     /// Hands a sample to the gauge.
     pub fn sample(&mut self, sample: Sample) -> Result<(), Refusal>
         ensures answer { result ≡ done_unless (sample_refusal sample) }
-        ensures after { ledger_of self.new ≡ after_sample
+        ensures after { self.new ≡ after_sample
             (meanings G.Gauge.meaning T.CapacityTable.meaning P.ProductRule.meaning)
-            (ledger_of self.old) sample }
+            self.old sample }
     {
         if let Some(number) = sample.first_wrong() {
             return Err(Cause::SampleOutside.at(i64::from(number)));
@@ -71,16 +70,16 @@ impl<G: Gauge, T: CapacityTable, P: ProductRule> TankComputer<G, T, P> {
 
     /// Fits a probe element above the others.
     pub fn fit(&mut self, height: u32) -> Result<(), Refusal>
-        ensures answer { result ≡ done_unless (fit_refused (ledger_of self.old) height) }
-        ensures after { ledger_of self.new ≡ after_fit (ledger_of self.old) height }
+        ensures answer { result ≡ done_unless (fit_refused self.old height) }
+        ensures after { self.new ≡ after_fit self.old height }
     {
         self.probe.fit(height)
     }
 
     /// Gives probe element `number`, counted from 1, a temperature in hundredths of a °C.
     pub fn element(&mut self, number: u32, hundredths: i32) -> Result<(), Refusal>
-        ensures answer { result ≡ done_unless (element_refused (ledger_of self.old) number) }
-        ensures after { ledger_of self.new ≡ after_element (ledger_of self.old) number hundredths }
+        ensures answer { result ≡ done_unless (element_refused self.old number) }
+        ensures after { self.new ≡ after_element self.old number hundredths }
     {
         self.probe.hear(number, hundredths)
     }
@@ -89,10 +88,10 @@ impl<G: Gauge, T: CapacityTable, P: ProductRule> TankComputer<G, T, P> {
     pub fn density(&mut self, density: u32) -> Result<(), Refusal>
         ensures answer { result ≡ done_unless (density_refused
             (meanings G.Gauge.meaning T.CapacityTable.meaning P.ProductRule.meaning)
-            (ledger_of self.old) density) }
-        ensures after { ledger_of self.new ≡ after_density
+            self.old density) }
+        ensures after { self.new ≡ after_density
             (meanings G.Gauge.meaning T.CapacityTable.meaning P.ProductRule.meaning)
-            (ledger_of self.old) density }
+            self.old density }
     {
         let _coefficient = self.rule.coefficient(density)?;
         self.density = Some(density);
@@ -102,7 +101,7 @@ impl<G: Gauge, T: CapacityTable, P: ProductRule> TankComputer<G, T, P> {
     /// Sets the shell coefficient, in units of 10^-7 per °C.
     pub fn shell(&mut self, shell: u32) -> Result<(), Refusal>
         ensures answer { result ≡ done_unless (shell_refused shell) }
-        ensures after { ledger_of self.new ≡ after_shell (ledger_of self.old) shell }
+        ensures after { self.new ≡ after_shell self.old shell }
     {
         if shell > LARGEST_SHELL {
             return Err(Cause::ShellLimit.at(i64::from(shell)));
@@ -114,7 +113,7 @@ impl<G: Gauge, T: CapacityTable, P: ProductRule> TankComputer<G, T, P> {
     /// Sets the height of the water below the product.
     pub fn water(&mut self, water: u32) -> Result<(), Refusal>
         ensures answer { result ≡ done_unless (water_refused water) }
-        ensures after { ledger_of self.new ≡ after_water (ledger_of self.old) water }
+        ensures after { self.new ≡ after_water self.old water }
     {
         if water > HIGHEST_LEVEL {
             return Err(Cause::WaterLimit.at(i64::from(water)));

@@ -1,7 +1,7 @@
 //! Reading a tank. It changes nothing.
 ghost use Rattle.std.specs.Prelude.{◌≡◌};
-ghost use Rattle.computer.specs.Ledgers.{meanings, ledger_of};
-ghost use Rattle.computer.specs.Readings.{DensityCovered, ReadAnswer};
+ghost use Rattle.computer.specs.Ledgers.{meanings, Admitted};
+ghost use Rattle.computer.specs.Readings.{ReadAnswer};
 
 use super::super::reading::Reading;
 use super::TankComputer;
@@ -15,33 +15,32 @@ use working::observation::Observation;
 
 impl<G: Gauge, T: CapacityTable, P: ProductRule> TankComputer<G, T, P> {
     /// A reading by method 1 or 2, or the first cause against it: the method, the gauge, the density, the height of the
-    /// level, the water, the probe. The density that was set is one that the rule covers.
+    /// level, the water, the probe.
     pub fn read(&self, method: u32) -> Result<Reading, Refusal>
-        ensures { DensityCovered
+        ensures answer { ReadAnswer
             (meanings G.Gauge.meaning T.CapacityTable.meaning P.ProductRule.meaning)
-            (ledger_of self.now)
-            → ReadAnswer
-            (meanings G.Gauge.meaning T.CapacityTable.meaning P.ProductRule.meaning)
-            (ledger_of self.now) method result }
+            self.now method result }
+        ensures admitted { Admitted P.ProductRule.meaning self.now.rule self.now.density self.now.shell }
     {
+        let water = self.water;
         let method = Method::of(method)?;
         let level = self.gauge.tell()?;
         let Some(density) = self.density else {
             return Err(Cause::DensityUnset.at(0));
         };
-        let at_level = self.table.tenths(level)?;
-        if self.water >= level {
-            return Err(Cause::WaterAtLevel.at(i64::from(self.water)));
+        let at_level = self.survey.table.tenths(level)?;
+        if water >= level {
+            return Err(Cause::WaterAtLevel.at(i64::from(water)));
         }
-        let counting = self.probe.counting(self.water, level);
+        let counting = self.probe.counting(water, level);
         if counting.elements().is_empty() {
             return Err(Cause::NoElementCounts.at(i64::from(level)));
         }
-        let at_water = self.table.tenths(self.water)?;
+        let at_water = self.survey.table.tenths(water)?;
         let coefficient = self.rule.coefficient(density)?;
         let liquid = Liquid {
             elements: counting.elements(),
-            water: self.water,
+            water,
             level,
         };
         let temperature = liquid.average();
@@ -58,11 +57,11 @@ impl<G: Gauge, T: CapacityTable, P: ProductRule> TankComputer<G, T, P> {
         let figures = observation.work_out();
         Ok(Reading {
             tank: self.tank,
-            date: self.date,
+            date: self.survey.date,
             method,
             density,
             level,
-            water: self.water,
+            water,
             temperature: temperature.ten_millionths,
             correction: figures.correction,
             gross: figures.gross,

@@ -1,29 +1,22 @@
 use Rattle.std.proofs.Common.{List, vec_items, sym, ◌∙◌, subst}
 use Rattle.std.proofs.lemmas.List.{nil_from_length}
 use Rattle.std.specs.Vec.Iter.{into_iter_items}
-use Rattle.computer.specs.Ledgers.{meanings, ledger_of}
-use Rattle.computer.specs.Readings.{DensityCovered}
+use Rattle.computer.specs.Ledgers.{meanings}
 use Rattle.history.specs.declared.call.Call.{Call}
 use Rattle.history.specs.Histories.{Answered}
-use Rattle.history.proofs.Runs.{density_kept, one_more, none_left}
+use Rattle.history.proofs.Runs.{one_more, none_left}
 use Rattle.history.proofs.run.serve_all.Goals as goal
 
 pub loop-call-preserved : goal.loop-call-preserved
-loop-call-preserved g c h =
+loop-call-preserved g c =
     let m = meanings g.G.Gauge.meaning g.T.CapacityTable.meaning g.P.ProductRule.meaning in
-    let now = ledger_of c.loop-call.computer in
-    let after = ledger_of c.serve-answer.new.computer in
-    let inv = c.loop-call.invariant h in
-    let stepped = c.serve-answer.ensures.after in (
-      subst (DensityCovered m) (sym stepped) (density_kept m now c.in-Some.call inv.0),
-      one_more m (ledger_of c.args.computer.now) now after _ (into_iter_items c.loop-call.call-iterator) (into_iter_items c.next.new.self) c.in-Some.call c.serve-answer.result (vec_items c.loop-call.answers) _ inv.1 c.in-Some.ensures.steps.0 (c.serve-answer.ensures.answer inv.0) stepped c.in_ok-push.ensures.items,
-    )
+    one_more m c.args.computer.now c.loop-call.computer c.serve-answer.new.computer _ (into_iter_items c.loop-call.call-iterator) (into_iter_items c.next.new.self) c.in-Some.call c.serve-answer.result (vec_items c.loop-call.answers) _ c.loop-call.invariant c.in-Some.ensures.steps.0 c.serve-answer.ensures.answer c.serve-answer.ensures.after c.in_ok-push.ensures.items
 
 pub returns : goal.returns
-returns g c h =
+returns g c =
     let m = meanings g.G.Gauge.meaning g.T.CapacityTable.meaning g.P.ProductRule.meaning in
-    let start = ledger_of c.args.computer.now in
+    let start = c.args.computer.now in
     let rest = c.loop-call.call-iterator in
     let gone = nil_from_length (into_iter_items rest) (sym rest.rest.ok.0 ∙ c.in-None.ensures.steps.0) in
-    let all = none_left m start (ledger_of c.loop-call.computer) (into_iter_items c.into_iter-call-iterator.result) (into_iter_items rest) (vec_items c.loop-call.answers) (c.loop-call.invariant h).1 gone in
+    let all = none_left m start c.loop-call.computer (into_iter_items c.into_iter-call-iterator.result) (into_iter_items rest) (vec_items c.loop-call.answers) c.loop-call.invariant gone in
     subst (λ (calls : List (Call g.row.T.Denot)). Answered m start calls (vec_items c.loop-call.answers)) c.into_iter-call-iterator.ensures.into_iter_gives.0 all

@@ -1,13 +1,10 @@
 use Rattle.std.proofs.Common.{vec_items}
 use Rattle.std.specs.Vec.Iter.{into_iter_items}
-use Rattle.computer.specs.Ledgers.{meanings, ledger_of}
-use Rattle.computer.specs.Readings.{DensityCovered}
+use Rattle.computer.specs.Ledgers.{meanings}
 use Rattle.history.proofs.Runs.{Served}
 use Rattle.history.proofs.run.serve_all.Given as goal
 
 abbrev pub invariant-loop-call : goal.invariant-loop-call
 invariant-loop-call g l =
     let m = meanings g.G.Gauge.meaning g.T.CapacityTable.meaning g.P.ProductRule.meaning in
-    DensityCovered m (ledger_of l.initial.computer)
-    → DensityCovered m (ledger_of l.computer)
-    × Served m (ledger_of l.initial.computer) (ledger_of l.computer) (into_iter_items l.initial.call-iterator) (into_iter_items l.call-iterator) (vec_items l.answers)
+    Served m l.initial.computer l.computer (into_iter_items l.initial.call-iterator) (into_iter_items l.call-iterator) (vec_items l.answers)
