@@ -37,6 +37,7 @@ pub fn serve<G: Gauge, T: CapacityTable + Drop, P: ProductRule>(
 }
 
 /// Makes all calls, in their order.
+#[tactic(auto, using(crate::proofs::Runs::one_more))]
 fn serve_all<G: Gauge, T: CapacityTable + Drop, P: ProductRule>(
     heap: Global,
     computer: &mut TankComputer<G, T, P>,
@@ -56,6 +57,7 @@ fn serve_all<G: Gauge, T: CapacityTable + Drop, P: ProductRule>(
 }
 
 /// Commissions a computer and makes all calls. Each answer is the ledger's after the calls before it.
+#[tactic(auto, using(crate::proofs::Runs::ran))]
 pub fn run<G: Gauge + Drop, T: CapacityTable + Drop, P: ProductRule + Drop>(
     heap: Global,
     tank: u32,
