@@ -1,14 +1,19 @@
 -- What the whole-number working of a line answers is its exact coefficient, rounded.
-use Rattle.std.proofs.Common.{◌≡◌, ℕ, ◌+◌, ◌-◌, ◌*◌, ◌<◌, ◌≤◌, true, ◌&&◌, leb, ℤ, pos, ◌*ℤ◌, nat_abs, is_some, Some, Option, sym, ap, ◌∙◌, subst, arith}
+use Rattle.std.proofs.Common.{◌≡◌, ℕ, ◌+◌, ◌-◌, ◌*◌, ◌<◌, ◌≤◌, true, leb, ℤ, pos, ◌*ℤ◌, nat_abs, is_some, Some, Ok, Err, Option, Result, sym, ap, ◌∙◌, subst, arith}
 use borrow.Author.Differences.{ints, up, down, product_is}
-use Rattle.std.proofs.lemmas.Bool.{and_parts}
+use Rattle.std.proofs.lemmas.Bool.{and_parts, leb-true, cond-true}
+use Rattle.std.proofs.lemmas.Bool.Decides.{nat_tests}
+use Rattle.measure.specs.declared.refusal.Refusal.{Refusal}
+use Rattle.measure.specs.declared.refusal.Cause.TheVariants.{DensityOutside}
 use Rattle.measure.specs.Fractions.{natural, over, numerator, ◌⊗◌, ◌≃◌}
 use Rattle.measure.specs.Rounding.{rounded, rounded_fraction}
+use Rattle.measure.specs.Refusals.{refusal}
 use Rattle.product.specs.declared.api.ApiRule.{ApiRule}
 use Rattle.product.specs.declared.api.line.Line.{Line}
+use Rattle.product.specs.declared.api.ApiRule.TheVariants.{Crude, Products, Lubricants}
 use Rattle.product.specs.Lines.{line_for}
-use Rattle.product.specs.Rules.{greatest_density, million_millionths}
-use Rattle.product.specs.ApiRules.{front, rise, fall, lowest, highest, plain, line_coefficient, line_is, bounded_on, alike, right, Within, within, bounded_there}
+use Rattle.product.specs.Rules.{greatest_density, million_millionths, covered, answered}
+use Rattle.product.specs.ApiRules.{front, rise, fall, lowest, highest, range_least, square_some, plain, line_coefficient, line_is, coefficient_on, api_coefficient, bounded_on, alike, right, Within, within, bounded_there, api_meaning}
 use Rattle.product.proofs.Rounded.{rounded_same}
 
 spread : (f u d sq n : ℕ) → n + d * sq ≡ f + u * sq
@@ -27,16 +32,44 @@ same_quotient l r n h w e =
     let parts : n + down (pos 10000 *ℤ l.k2) * (r * r) ≡ front l r + up (pos 10000 *ℤ l.k2) * (r * r) = omega arith in
     spread (front l r) (up (pos 10000 *ℤ l.k2)) (down (pos 10000 *ℤ l.k2)) (r * r) n parts
 
-pub api_value : (l : Line) (r n q : ℕ) (h : 0 < r * r) → Within l r → n ≡ rise l r - fall l r → pos q ≡ rounded (pos n) (r * r) → q ≡ million_millionths (line_coefficient l r)
+api_value : (l : Line) (r n q : ℕ) (h : 0 < r * r) → Within l r → n ≡ rise l r - fall l r → pos q ≡ rounded (pos n) (r * r) → q ≡ million_millionths (line_coefficient l r)
 api_value l r n q h w e told =
     let y = over n (r * r) h in
     let above : numerator y ≡ pos n = omega (arith, ints) in
     let same : rounded_fraction (natural 1000000000000 ⊗ plain l r h) ≡ rounded (pos n) (r * r) = rounded_same (natural 1000000000000 ⊗ plain l r h) y (same_quotient l r n h w e) ∙ ap (λ (a : ℤ). rounded a (r * r)) above in
     ap nat_abs told ∙ sym (ap nat_abs same) ∙ sym (ap million_millionths (line_is l r h))
 
--- a line that was found covers the density
-pub found_covers : (rule : ApiRule) (r : ℕ) (l : Line) → r ≤ greatest_density → line_for rule r ≡ Some l → (leb (lowest rule) r && leb r (highest rule)) ≡ true
-found_covers rule r l most e = subst (λ (o : Option Line). alike (is_some o) (leb (lowest rule) r && leb r (highest rule)) ≡ true) e (and_parts _ _ (right rule r most)).0
+-- ---- a line that was found
 
-pub found_within : (rule : ApiRule) (r : ℕ) (l : Line) → r ≤ greatest_density → line_for rule r ≡ Some l → Within l r
-found_within rule r l most e = within l r (subst (λ (o : Option Line). bounded_on o r ≡ true) e (bounded_there rule r most))
+-- no line covers a density above those of any rule
+found_most : (rule : ApiRule) (r : ℕ) (l : Line) → line_for rule r ≡ Some l → r ≤ greatest_density
+found_most Crude r l e = grind (arith, nat_tests, e)
+found_most Products r l e = grind (arith, nat_tests, e)
+found_most Lubricants r l e = grind (arith, nat_tests, e)
+
+found_covers : (rule : ApiRule) (r : ℕ) (l : Line) → line_for rule r ≡ Some l → covered api_meaning rule r ≡ true
+found_covers rule r l e = subst (λ (o : Option Line). alike (is_some o) (covered api_meaning rule r) ≡ true) e (and_parts _ _ (right rule r (found_most rule r l e))).0
+
+found_some : (rule : ApiRule) (r : ℕ) (l : Line) → line_for rule r ≡ Some l → 0 < r * r
+found_some rule r l e =
+    let low = leb-true _ _ (and_parts (leb (lowest rule) r) (leb r (highest rule)) (found_covers rule r l e)).0 in
+    square_some r (omega (arith, range_least rule))
+
+found_within : (rule : ApiRule) (r : ℕ) (l : Line) → line_for rule r ≡ Some l → Within l r
+found_within rule r l e = within l r (subst (λ (o : Option Line). bounded_on o r ≡ true) e (bounded_there rule r (found_most rule r l e)))
+
+-- what the working may ask of it
+pub found_limits : (rule : ApiRule) (density r : ℕ) (l : Line) → line_for rule density ≡ Some l → r ≡ density → Within l r × (r ≤ greatest_density) × (0 < r * r)
+found_limits rule density r l e same =
+    subst (λ (m : ℕ). Within l m × (m ≤ greatest_density) × (0 < m * m)) (sym same) (found_within rule density l e, found_most rule density l e, found_some rule density l e)
+
+-- what the working answers by it
+pub found_answer : (rule : ApiRule) (density r n q : ℕ) (l : Line) → line_for rule density ≡ Some l → r ≡ density
+    → n ≡ rise l r - fall l r → pos q ≡ rounded (pos n) (r * r) → Ok q ≡ answered api_meaning rule density
+found_answer rule density r n q l e same difference told =
+    let limits = found_limits rule density r l e same in
+    let value = api_value l r n q limits.2 limits.0 difference told in
+    let there : line_coefficient l r ≡ api_coefficient rule density = ap (line_coefficient l) same ∙ ap (λ (o : Option Line). coefficient_on o density) (sym e) in
+    let say : ℕ → Result ℕ Refusal = λ k. Ok k in
+    ap say (value ∙ ap million_millionths there)
+    ∙ sym (cond-true (covered api_meaning rule density) (say (million_millionths (api_coefficient rule density))) (Err (refusal DensityOutside (pos density))) (found_covers rule density l e))

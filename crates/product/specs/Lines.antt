@@ -1,8 +1,10 @@
 -- The table of constants of the API rules.
-use Rattle.std.specs.Prelude.{ℕ, Bool, true, false, cond, ◌&&◌, List, [], ◌∷◌, ℤ, pos, negsuc, Some, None, Option, nat_le}
+use Rattle.std.specs.Prelude.{ℕ, Bool, ◌&&◌, List, [], ◌∷◌, ℤ, pos, negsuc, Option, nat_le}
+use Rattle.std.specs.List.{find}
 use Rattle.product.specs.declared.api.ApiRule.{ApiRule}
 use Rattle.product.specs.declared.api.ApiRule.TheVariants.{Crude, Products, Lubricants}
 use Rattle.product.specs.declared.api.line.Line.{Line}
+use Rattle.product.specs.contracts.api.ApiRulePartialEq.TheImpl.{eq-value}
 
 abbrev pub line : ApiRule → ℕ → ℕ → ℕ → ℕ → ℤ → Line
 line rule low high k0 k1 k2 = record { rule = rule; low = low; high = high; k0 = k0; k1 = k1; k2 = k2 }
@@ -19,23 +21,11 @@ lines =
     ∷ []
 
 abbrev pub same_rule : ApiRule → ApiRule → Bool
-same_rule Crude Crude = true
-same_rule Crude Products = false
-same_rule Crude Lubricants = false
-same_rule Products Crude = false
-same_rule Products Products = true
-same_rule Products Lubricants = false
-same_rule Lubricants Crude = false
-same_rule Lubricants Products = false
-same_rule Lubricants Lubricants = true
+same_rule = eq-value.it
 
 abbrev pub covers : ApiRule → ℕ → Line → Bool
 covers rule r l = same_rule l.rule rule && nat_le l.low r && nat_le r l.high
 
-abbrev pub first_covering : ApiRule → ℕ → List Line → Option Line
-first_covering rule r [] = None
-first_covering rule r (l ∷ ls) = cond (covers rule r l) (Some l) (first_covering rule r ls)
-
 -- the line that covers a density
 abbrev pub line_for : ApiRule → ℕ → Option Line
-line_for rule r = first_covering rule r lines
+line_for rule r = find (covers rule r) lines

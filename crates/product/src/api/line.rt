@@ -1,6 +1,6 @@
 //! The table of constants: K0 and K1 in units of 10^-4, K2 in units of 10^-8.
 ghost use Rattle.std.specs.Prelude.{◌≡◌};
-ghost use Rattle.product.specs.Lines.{same_rule, covers, line_for};
+ghost use Rattle.product.specs.Lines.{covers, line_for};
 
 use super::ApiRule;
 
@@ -66,24 +66,11 @@ const LINES: [Line; 6] = [
     },
 ];
 
-impl ApiRule {
-    fn is(self, other: ApiRule) -> bool
-        ensures { result ≡ same_rule self other }
-    {
-        match (self, other) {
-            (ApiRule::Crude, ApiRule::Crude) => true,
-            (ApiRule::Products, ApiRule::Products) => true,
-            (ApiRule::Lubricants, ApiRule::Lubricants) => true,
-            _ => false,
-        }
-    }
-}
-
 impl Line {
     fn covers(&self, rule: ApiRule, density: u32) -> bool
         ensures { result ≡ covers rule density self.now }
     {
-        self.rule.is(rule) && self.low <= density && density <= self.high
+        self.rule == rule && (self.low..=self.high).contains(&density)
     }
 }
 
@@ -91,11 +78,8 @@ impl Line {
 pub(crate) fn line_for(rule: ApiRule, density: u32) -> Option<Line>
     ensures { result ≡ line_for rule density }
 {
-    for i in 0..6 {
-        let line = LINES[i];
-        if line.covers(rule, density) {
-            return Some(line);
-        }
-    }
-    None
+    LINES
+        .iter()
+        .find(|line| line.covers(rule, density))
+        .copied()
 }

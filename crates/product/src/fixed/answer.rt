@@ -3,7 +3,7 @@ ghost use Rattle.std.specs.Prelude.{◌≡◌, Some, None, MatchResult};
 ghost use Rattle.product.specs.FixedRules.{fixed_refusal, fixed_meaning};
 
 use super::super::limits::{GREATEST_DENSITY, LEAST_DENSITY};
-use super::super::rule::ProductRule;
+use super::super::rule::{ProductRule, not_covered};
 use super::FixedCoefficient;
 use measure::refusal::{Cause, Refusal};
 
@@ -27,8 +27,8 @@ impl ProductRule for FixedCoefficient {
     ghost meaning = { fixed_meaning };
 
     fn coefficient(&self, density: u32) -> Result<u64, Refusal> {
-        if density < LEAST_DENSITY || density > GREATEST_DENSITY {
-            return Err(Cause::DensityOutside.at(i64::from(density)));
+        if !(LEAST_DENSITY..=GREATEST_DENSITY).contains(&density) {
+            return Err(not_covered(density));
         }
         Ok(100_000 * u64::from(self.value))
     }

@@ -9,6 +9,6 @@ use Rattle.product.proofs.fixed.answer.FixedCoefficientProductRule.coefficient.G
 pub returns : goal.returns
 returns c =
     let a = fixed_coefficient c.args.self.now c.args.density in
-    let same = c.from-2.ensures in
-    let value : 100000 * c.from-2.result ≡ million_millionths a = sym (rounded_whole (natural 1000000000000 ⊗ a) (100000 * c.from-2.result) (omega arith)) in
+    let same = c.from.ensures in
+    let value : 100000 * c.from.result ≡ million_millionths a = sym (rounded_whole (natural 1000000000000 ⊗ a) (100000 * c.from.result) (omega arith)) in
     grind (arith, nat_tests, value)
