@@ -2,12 +2,13 @@
 use Rattle.std.proofs.Common.{◌≡◌, ℕ, zero, suc, ◌+◌, ◌<◌, ◌≤◌, Bool, true, false, cond, ltb, leb, List, [], ◌∷◌, is_some, Some, None, Ok, Err, Option, Result, sym, refl, ap, ◌∙◌, subst, inl, inr, arith}
 use Rattle.std.proofs.lemmas.Bool.{false≢true, le-leb, leb-false, ltb-false, cond-true, cond-false, cond_both}
 use Rattle.std.proofs.lemmas.Bool.Decides.{nat_tests}
+use Rattle.std.specs.Int.{abs_diff}
 use Rattle.measure.specs.declared.refusal.Refusal.{Refusal}
 use Rattle.gauge.specs.declared.gate.Gate.{Gate}
 use Rattle.gauge.specs.declared.sample.Sample.{Sample}
 use Rattle.gauge.specs.declared.gate.state.State.{State}
 use Rattle.gauge.specs.declared.gate.state.State.TheVariants.{Empty, Settled, Suspect, Lost}
-use Rattle.gauge.specs.GateStates.{apart, state_after}
+use Rattle.gauge.specs.GateStates.{state_after}
 use Rattle.gauge.specs.Gates.{state_says, gate_meaning, stepped}
 use Rattle.gauge.specs.Gauges.{GaugeMeaning}
 use Rattle.gauge.specs.Samples.{first_wrong}
@@ -23,12 +24,12 @@ Counted a history (Suspect held count) = count ≤ doubts a held history
 Counted a history (Lost held) = Unit {0}
 
 -- a doubted level: one more doubt
-doubted : (a r held count g : ℕ) (history : List (Result ℕ Refusal)) → count ≤ doubts a held history + 1 → Counted a (Ok g ∷ history) (cond (leb (apart g held) a) (Settled g) (cond (ltb r count) (Lost g) (Suspect held count)))
+doubted : (a r held count g : ℕ) (history : List (Result ℕ Refusal)) → count ≤ doubts a held history + 1 → Counted a (Ok g ∷ history) (cond (leb (abs_diff g held) a) (Settled g) (cond (ltb r count) (Lost g) (Suspect held count)))
 doubted a r held count g history most =
-    cond_both (leb (apart g held) a) (Settled g) (cond (ltb r count) (Lost g) (Suspect held count)) (Counted a (Ok g ∷ history))
+    cond_both (leb (abs_diff g held) a) (Settled g) (cond (ltb r count) (Lost g) (Suspect held count)) (Counted a (Ok g ∷ history))
     (λ _. tt)
     (λ outside. cond_both (ltb r count) (Lost g) (Suspect held count) (Counted a (Ok g ∷ history)) (λ _. tt)
-    (λ _. subst (λ (n : ℕ). count ≤ n) (sym (cond-false (leb (apart g held) a) 0 (doubts a held history + 1) outside)) most))
+    (λ _. subst (λ (n : ℕ). count ≤ n) (sym (cond-false (leb (abs_diff g held) a) 0 (doubts a held history + 1) outside)) most))
 
 counted_step : (a r : ℕ) (history : List (Result ℕ Refusal)) (state : State) (told : Result ℕ Refusal) → Counted a history state → Counted a (told ∷ history) (state_after a r state told)
 counted_step a r history Empty (Err f) c = tt
@@ -38,7 +39,7 @@ counted_step a r history (Lost held) (Err f) c = tt
 counted_step a r history Empty (Ok g) c = tt
 counted_step a r history (Settled held) (Ok g) c = doubted a r held 1 g history (omega arith)
 counted_step a r history (Suspect held count) (Ok g) c = doubted a r held (count + 1) g history (omega arith)
-counted_step a r history (Lost held) (Ok g) c = cond_both (leb (apart g held) a) (Settled g) (Lost g) (Counted a (Ok g ∷ history)) (λ _. tt) (λ _. tt)
+counted_step a r history (Lost held) (Ok g) c = cond_both (leb (abs_diff g held) a) (Settled g) (Lost g) (Counted a (Ok g ∷ history)) (λ _. tt) (λ _. tt)
 
 counted : (a r : ℕ) (history : List (Result ℕ Refusal)) → Counted a history (held_after a r history)
 counted a r [] = tt
@@ -69,10 +70,10 @@ kept_step a r history (Suspect held count) (Err f) k = inr k
 kept_step a r history (Lost held) (Err f) k = inr k
 kept_step a r history Empty (Ok g) k = inl refl
 kept_step a r history (Settled held) (Ok g) k =
-    cond_both (leb (apart g held) a) (Settled g) (cond (ltb r 1) (Lost g) (Suspect held 1)) (Kept (Ok g ∷ history)) (λ _. inl refl) (λ _. kept_doubted r held 1 g history k)
+    cond_both (leb (abs_diff g held) a) (Settled g) (cond (ltb r 1) (Lost g) (Suspect held 1)) (Kept (Ok g ∷ history)) (λ _. inl refl) (λ _. kept_doubted r held 1 g history k)
 kept_step a r history (Suspect held count) (Ok g) k =
-    cond_both (leb (apart g held) a) (Settled g) (cond (ltb r (count + 1)) (Lost g) (Suspect held (count + 1))) (Kept (Ok g ∷ history)) (λ _. inl refl) (λ _. kept_doubted r held (count + 1) g history k)
-kept_step a r history (Lost held) (Ok g) k = cond_both (leb (apart g held) a) (Settled g) (Lost g) (Kept (Ok g ∷ history)) (λ _. inl refl) (λ _. inl refl)
+    cond_both (leb (abs_diff g held) a) (Settled g) (cond (ltb r (count + 1)) (Lost g) (Suspect held (count + 1))) (Kept (Ok g ∷ history)) (λ _. inl refl) (λ _. kept_doubted r held (count + 1) g history k)
+kept_step a r history (Lost held) (Ok g) k = cond_both (leb (abs_diff g held) a) (Settled g) (Lost g) (Kept (Ok g ∷ history)) (λ _. inl refl) (λ _. inl refl)
 
 kept : (a r : ℕ) (history : List (Result ℕ Refusal)) → Kept history (held_after a r history)
 kept a r [] = tt
@@ -99,17 +100,17 @@ reached_doubted r held count g n most = cond_both (ltb r count) (Lost g) (Suspec
 
 reached_next : (a r g n : ℕ) (state : State) → Reached r g n state → Reached r g (suc n) (state_after a r state (Ok g))
 reached_next a r g n Empty k = absurd k
-reached_next a r g n (Settled held) k = cond_both (leb (apart g held) a) (Settled g) (cond (ltb r 1) (Lost g) (Suspect held 1)) (Reached r g (suc n)) (λ _. refl)
-    (λ outside. let far = leb-false (apart g held) a outside in absurd (omega arith))
-reached_next a r g n (Suspect held count) k = cond_both (leb (apart g held) a) (Settled g) (cond (ltb r (count + 1)) (Lost g) (Suspect held (count + 1))) (Reached r g (suc n)) (λ _. refl)
+reached_next a r g n (Settled held) k = cond_both (leb (abs_diff g held) a) (Settled g) (cond (ltb r 1) (Lost g) (Suspect held 1)) (Reached r g (suc n)) (λ _. refl)
+    (λ outside. let far = leb-false (abs_diff g held) a outside in absurd (omega arith))
+reached_next a r g n (Suspect held count) k = cond_both (leb (abs_diff g held) a) (Settled g) (cond (ltb r (count + 1)) (Lost g) (Suspect held (count + 1))) (Reached r g (suc n)) (λ _. refl)
     (λ _. let least = k.0 in reached_doubted r held (count + 1) g (suc n) (omega arith))
-reached_next a r g n (Lost held) k = cond_both (leb (apart g held) a) (Settled g) (Lost g) (Reached r g (suc n)) (λ _. refl) (λ _. refl)
+reached_next a r g n (Lost held) k = cond_both (leb (abs_diff g held) a) (Settled g) (Lost g) (Reached r g (suc n)) (λ _. refl) (λ _. refl)
 
 reached_first : (a r g : ℕ) (state : State) → Reached r g 1 (state_after a r state (Ok g))
 reached_first a r g Empty = refl
-reached_first a r g (Settled held) = cond_both (leb (apart g held) a) (Settled g) (cond (ltb r 1) (Lost g) (Suspect held 1)) (Reached r g 1) (λ _. refl) (λ _. reached_doubted r held 1 g 1 (omega arith))
-reached_first a r g (Suspect held count) = cond_both (leb (apart g held) a) (Settled g) (cond (ltb r (count + 1)) (Lost g) (Suspect held (count + 1))) (Reached r g 1) (λ _. refl) (λ _. reached_doubted r held (count + 1) g 1 (omega arith))
-reached_first a r g (Lost held) = cond_both (leb (apart g held) a) (Settled g) (Lost g) (Reached r g 1) (λ _. refl) (λ _. refl)
+reached_first a r g (Settled held) = cond_both (leb (abs_diff g held) a) (Settled g) (cond (ltb r 1) (Lost g) (Suspect held 1)) (Reached r g 1) (λ _. refl) (λ _. reached_doubted r held 1 g 1 (omega arith))
+reached_first a r g (Suspect held count) = cond_both (leb (abs_diff g held) a) (Settled g) (cond (ltb r (count + 1)) (Lost g) (Suspect held (count + 1))) (Reached r g 1) (λ _. refl) (λ _. reached_doubted r held (count + 1) g 1 (omega arith))
+reached_first a r g (Lost held) = cond_both (leb (abs_diff g held) a) (Settled g) (Lost g) (Reached r g 1) (λ _. refl) (λ _. refl)
 
 abbrev held_at : ℕ → ℕ → State → ℕ → ℕ → State
 held_at a r state g n = held_from a r state (repeated n (Ok g))
@@ -120,9 +121,9 @@ reached a r g (suc n) state = reached_next a r g (suc n) (held_at a r state g (s
 
 at_last : (a r g : ℕ) (state : State) → Reached r g (suc r) state → state_after a r state (Ok g) ≡ Settled g
 at_last a r g Empty k = absurd k
-at_last a r g (Settled held) k = cond-true (leb (apart g held) a) (Settled g) _ (le-leb (apart g held) a (omega arith))
+at_last a r g (Settled held) k = cond-true (leb (abs_diff g held) a) (Settled g) _ (le-leb (abs_diff g held) a (omega arith))
 at_last a r g (Suspect held count) k = let least = k.0 in let most = k.1 in absurd (omega arith)
-at_last a r g (Lost held) k = cond-true (leb (apart g held) a) (Settled g) _ (le-leb (apart g held) a (omega arith))
+at_last a r g (Lost held) k = cond-true (leb (abs_diff g held) a) (Settled g) _ (le-leb (abs_diff g held) a (omega arith))
 
 settles : (a r : ℕ) (state : State) (g : ℕ) → held_at a r state g (r + 2) ≡ Settled g
 settles a r state g =

@@ -1,12 +1,13 @@
 -- What a gate keeps over any history. A history is the list of what the gauge below told after each sample that was
 -- within its limits, the newest first.
 use Rattle.std.specs.Prelude.{◌≡◌, ℕ, zero, suc, ◌+◌, ◌<◌, cond, ◌⊎◌, List, [], ◌∷◌, is_some, Ok, Err, Result, ◌≢◌, nat_le}
+use Rattle.std.specs.Int.{abs_diff}
 use Rattle.measure.specs.declared.refusal.Refusal.{Refusal}
 use Rattle.gauge.specs.declared.gate.Gate.{Gate}
 use Rattle.gauge.specs.declared.sample.Sample.{Sample}
 use Rattle.gauge.specs.declared.gate.state.State.{State}
 use Rattle.gauge.specs.declared.gate.state.State.TheVariants.{Empty, Settled, Lost}
-use Rattle.gauge.specs.GateStates.{apart, state_after}
+use Rattle.gauge.specs.GateStates.{state_after}
 use Rattle.gauge.specs.Gates.{state_says, gate_meaning}
 use Rattle.gauge.specs.Gauges.{GaugeMeaning}
 use Rattle.gauge.specs.Samples.{first_wrong}
@@ -24,7 +25,7 @@ held_after allowance retries history = held_from allowance retries Empty history
 abbrev pub doubts : ℕ → ℕ → List (Result ℕ Refusal) → ℕ
 doubts allowance level [] = 0
 doubts allowance level (Err fault ∷ history) = doubts allowance level history
-doubts allowance level (Ok g ∷ history) = cond (nat_le (apart g level) allowance) 0 (doubts allowance level history + 1)
+doubts allowance level (Ok g ∷ history) = cond (nat_le (abs_diff g level) allowance) 0 (doubts allowance level history + 1)
 
 -- the gauge below has told a level
 abbrev pub Told : ℕ → List (Result ℕ Refusal) → Type 0

@@ -1,13 +1,10 @@
 -- What a gate holds, and how that changes with the level below.
-use Rattle.std.specs.Prelude.{ℕ, ◌+◌, ◌-◌, min, max, Bool, true, cond, Ok, Err, Result, nat_le, nat_lt}
+use Rattle.std.specs.Prelude.{ℕ, ◌+◌, Bool, true, cond, Ok, Err, Result, nat_le, nat_lt}
+use Rattle.std.specs.Int.{abs_diff}
 use Rattle.measure.specs.Limits.{highest_level}
 use Rattle.measure.specs.declared.refusal.Refusal.{Refusal}
 use Rattle.gauge.specs.declared.gate.state.State.{State}
 use Rattle.gauge.specs.declared.gate.state.State.TheVariants.{Empty, Settled, Suspect, Lost}
-
--- how far two levels lie from each other
-abbrev pub apart : ℕ → ℕ → ℕ
-apart a b = max a b - min a b
 
 -- a held level is within its limit
 abbrev pub state_right : State → Bool
@@ -23,9 +20,9 @@ doubted retries held count g = cond (nat_lt retries count) (Lost g) (Suspect hel
 -- the level g below: within the allowance of the held level it is settled at, else doubted or lost
 abbrev level_after : ℕ → ℕ → State → ℕ → State
 level_after allowance retries Empty g = Settled g
-level_after allowance retries (Settled held) g = cond (nat_le (apart g held) allowance) (Settled g) (doubted retries held 1 g)
-level_after allowance retries (Suspect held count) g = cond (nat_le (apart g held) allowance) (Settled g) (doubted retries held (count + 1) g)
-level_after allowance retries (Lost held) g = cond (nat_le (apart g held) allowance) (Settled g) (Lost g)
+level_after allowance retries (Settled held) g = cond (nat_le (abs_diff g held) allowance) (Settled g) (doubted retries held 1 g)
+level_after allowance retries (Suspect held count) g = cond (nat_le (abs_diff g held) allowance) (Settled g) (doubted retries held (count + 1) g)
+level_after allowance retries (Lost held) g = cond (nat_le (abs_diff g held) allowance) (Settled g) (Lost g)
 
 -- with a fault below the state stays
 abbrev pub state_after : ℕ → ℕ → State → Result ℕ Refusal → State

@@ -4,6 +4,7 @@ use Rattle.std.proofs.Common.{ap, arith}
 use Rattle.std.proofs.Math.Bool.{Bool-set}
 use mathlib.Core.HLevel.{is_prop→PathP}
 use Rattle.std.proofs.lemmas.Bool.{le-leb, leb-true, cond_both, cond-true}
+use Rattle.std.specs.Int.{abs_diff}
 use Rattle.measure.specs.Limits.{highest_level}
 use Rattle.measure.specs.declared.refusal.Refusal.{Refusal}
 use Rattle.measure.specs.declared.refusal.Cause.TheVariants.{NothingHeard, GateLost}
@@ -12,7 +13,7 @@ use Rattle.gauge.specs.declared.sample.Sample.{Sample}
 use Rattle.gauge.specs.declared.gate.Gate.{Gate}
 use Rattle.gauge.specs.declared.gate.state.State.{State}
 use Rattle.gauge.specs.declared.gate.state.State.TheVariants.{Empty, Settled, Suspect, Lost}
-use Rattle.gauge.specs.GateStates.{state_right, state_after, apart}
+use Rattle.gauge.specs.GateStates.{state_right, state_after}
 use Rattle.gauge.specs.Samples.{first_wrong}
 use Rattle.gauge.specs.Gauges.{GaugeMeaning}
 
@@ -45,13 +46,13 @@ pub state_stays_right : (allowance retries : ℕ) (state : State) (below : Resul
 state_stays_right a r state (Err fault) h most = h
 state_stays_right a r Empty (Ok g) h most = level_right g (most g refl)
 state_stays_right a r (Settled held) (Ok g) h most =
-    cond_both (nat_le (apart g held) a) (Settled g) (cond (nat_lt r 1) (Lost g) (Suspect held 1)) (λ s. state_right s ≡ true)
+    cond_both (nat_le (abs_diff g held) a) (Settled g) (cond (nat_lt r 1) (Lost g) (Suspect held 1)) (λ s. state_right s ≡ true)
     (λ _. level_right g (most g refl)) (λ _. doubted_right r held 1 g h (level_right g (most g refl)))
 state_stays_right a r (Suspect held count) (Ok g) h most =
-    cond_both (nat_le (apart g held) a) (Settled g) (cond (nat_lt r (count + 1)) (Lost g) (Suspect held (count + 1))) (λ s. state_right s ≡ true)
+    cond_both (nat_le (abs_diff g held) a) (Settled g) (cond (nat_lt r (count + 1)) (Lost g) (Suspect held (count + 1))) (λ s. state_right s ≡ true)
     (λ _. level_right g (most g refl)) (λ _. doubted_right r held (count + 1) g h (level_right g (most g refl)))
 state_stays_right a r (Lost held) (Ok g) h most =
-    cond_both (nat_le (apart g held) a) (Settled g) (Lost g) (λ s. state_right s ≡ true) (λ _. level_right g (most g refl)) (λ _. level_right g (most g refl))
+    cond_both (nat_le (abs_diff g held) a) (Settled g) (Lost g) (λ s. state_right s ≡ true) (λ _. level_right g (most g refl)) (λ _. level_right g (most g refl))
 
 pub says_most : (state : State) (below : Result ℕ Refusal) (level : ℕ) → state_right state ≡ true → state_says state below ≡ Ok level → level ≤ highest_level
 says_most state (Err fault) level h e = let z : ◌≡◌ {A = ℕ} 0 1 = cc in absurd (omega arith)

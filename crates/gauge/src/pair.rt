@@ -26,11 +26,9 @@ impl<A: Gauge, B: Gauge> Gauge for Pair<A, B> {
     ghost meaning = { pair_meaning A.Gauge.meaning B.Gauge.meaning };
 
     fn tell(&self) -> Result<u32, Refusal> {
-        match (self.first.tell(), self.second.tell()) {
-            (Ok(level), _) => Ok(level),
-            (Err(_), Ok(level)) => Ok(level),
-            (Err(fault), Err(_)) => Err(fault),
-        }
+        self.first
+            .tell()
+            .or_else(|fault| self.second.tell().map_err(|_| fault))
     }
 
     fn take(&mut self, sample: Sample) {

@@ -17,7 +17,7 @@ pub struct Sample {
     pub signal: Signal,
 }
 
-const LAST_INSTRUMENT: u32 = 2;
+pub(crate) const LAST_INSTRUMENT: u32 = 2;
 
 const LAST_FAULT_CODE: u32 = 255;
 
@@ -27,8 +27,7 @@ impl Signal {
         ensures { result ≡ signal_wrong self }
     {
         match self {
-            Signal::Level(level) if level <= HIGHEST_LEVEL => None,
-            Signal::Fault(code) if code >= 1 && code <= LAST_FAULT_CODE => None,
+            Signal::Level(0..=HIGHEST_LEVEL) | Signal::Fault(1..=LAST_FAULT_CODE) => None,
             Signal::Level(number) | Signal::Fault(number) => Some(number),
         }
     }
@@ -39,9 +38,9 @@ impl Sample {
     pub fn first_wrong(&self) -> Option<u32>
         ensures { result ≡ first_wrong self.now }
     {
-        if self.instrument < 1 || self.instrument > LAST_INSTRUMENT {
-            return Some(self.instrument);
+        match self.instrument {
+            1..=LAST_INSTRUMENT => self.signal.wrong(),
+            number => Some(number),
         }
-        self.signal.wrong()
     }
 }

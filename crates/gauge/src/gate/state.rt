@@ -6,6 +6,6 @@ pub enum State {
     Empty,
     Settled(u32),
     /// The held level, and how many samples in a row were outside the allowance.
-    Suspect(u32, u32),
+    Suspect { held: u32, count: u32 },
     Lost(u32),
 }

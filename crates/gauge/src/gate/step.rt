@@ -1,6 +1,6 @@
 //! What a gate says, and the step that it takes after each sample.
 ghost use Rattle.std.specs.Prelude.{◌≡◌};
-ghost use Rattle.gauge.specs.GateStates.{state_after, apart};
+ghost use Rattle.gauge.specs.GateStates.{state_after};
 ghost use Rattle.gauge.specs.Gates.{counted_allowance, counted_retries, gate_meaning};
 ghost use Rattle.gauge.specs.declared.gate.state.State.TheVariants.{Empty};
 
@@ -31,13 +31,6 @@ impl<G> Gate<G> {
     }
 }
 
-/// How far two levels lie from each other.
-fn apart(a: u32, b: u32) -> u32
-    ensures { result ≡ Rattle.gauge.specs.GateStates.apart a b }
-{
-    a.max(b) - a.min(b)
-}
-
 impl State {
     /// The state after a sample, from what the gauge below says then.
     fn step(&mut self, allowance: u32, retries: u32, below: Result<u32, Refusal>)
@@ -46,15 +39,22 @@ impl State {
         match (*self, below) {
             (_, Err(_)) => {}
             (State::Empty, Ok(level)) => *self = State::Settled(level),
-            (State::Settled(held) | State::Suspect(held, _) | State::Lost(held), Ok(level))
-                if apart(level, held) <= allowance => { *self = State::Settled(level) }
-            (State::Settled(held), Ok(_)) if retries >= 1 => *self = State::Suspect(held, 1),
-            (State::Suspect(held, count), Ok(_)) if count < retries => *self = State::Suspect(
-                held,
-                count + 1,
-            ),
-            (State::Settled(_) | State::Suspect(_, _) | State::Lost(_), Ok(level)) => *self =
-                State::Lost(level),
+            (State::Settled(held) | State::Suspect { held, .. } | State::Lost(held), Ok(level))
+                if level.abs_diff(held) <= allowance => {
+                *self = State::Settled(level);
+            }
+            (State::Settled(held), Ok(_)) if retries >= 1 => {
+                *self = State::Suspect { held, count: 1 };
+            }
+            (State::Suspect { held, count }, Ok(_)) if count < retries => {
+                *self = State::Suspect {
+                    held,
+                    count: count + 1,
+                };
+            }
+            (State::Settled(_) | State::Suspect { .. } | State::Lost(_), Ok(level)) => {
+                *self = State::Lost(level);
+            }
         }
     }
 }
@@ -63,10 +63,10 @@ impl<G: Gauge> Gauge for Gate<G> {
     ghost meaning = { gate_meaning G.Gauge.meaning };
 
     fn tell(&self) -> Result<u32, Refusal> {
-        let _level = self.below.tell()?;
+        self.below.tell()?;
         match self.state {
             State::Empty => Err(Cause::NothingHeard.at(0)),
-            State::Settled(held) | State::Suspect(held, _) => Ok(held),
+            State::Settled(held) | State::Suspect { held, .. } => Ok(held),
             State::Lost(held) => Err(Cause::GateLost.at(i64::from(held))),
         }
     }

@@ -3,7 +3,7 @@ ghost use Rattle.std.specs.Prelude.{◌≡◌, None};
 ghost use Rattle.gauge.specs.Singles.{counted_number, single_meaning};
 
 use super::super::gauge_trait::Gauge;
-use super::super::sample::{Sample, Signal};
+use super::super::sample::{LAST_INSTRUMENT, Sample, Signal};
 use super::SingleInstrument;
 use measure::refusal::{Cause, Refusal};
 
@@ -14,7 +14,7 @@ impl SingleInstrument {
         ensures heard { result.heard ≡ None }
     {
         SingleInstrument {
-            number: number.max(1).min(2),
+            number: number.clamp(1, LAST_INSTRUMENT),
             heard: None,
         }
     }
@@ -34,12 +34,8 @@ impl Gauge for SingleInstrument {
     }
 
     fn take(&mut self, sample: Sample) {
-        if sample.instrument != self.number {
-            return;
+        if sample.instrument == self.number && sample.first_wrong().is_none() {
+            self.heard = Some(sample.signal);
         }
-        if sample.first_wrong().is_some() {
-            return;
-        }
-        self.heard = Some(sample.signal);
     }
 }
