@@ -1,6 +1,6 @@
 -- The laws of a gate over its histories.
-use Rattle.std.proofs.Common.{◌≡◌, ℕ, zero, suc, ◌+◌, ◌<◌, ◌≤◌, Bool, true, false, cond, ltb, leb, List, [], ◌∷◌, is_some, Some, None, Ok, Err, Option, Result, sym, refl, ap, ◌∙◌, subst, inl, inr, arith}
-use Rattle.std.proofs.lemmas.Bool.{false≢true, le-leb, leb-false, ltb-false, cond-true, cond-false, cond_both}
+use Rattle.std.proofs.Common.{◌≡◌, ℕ, zero, suc, ◌+◌, ◌<◌, ◌≤◌, Bool, true, false, leb, List, [], ◌∷◌, is_some, Some, None, Ok, Err, Option, Result, refl, ap, ◌∙◌, subst, inl, inr, arith}
+use Rattle.std.proofs.lemmas.Bool.{false≢true, le-leb, cond-true, cond-false}
 use Rattle.std.proofs.lemmas.Bool.Decides.{nat_tests}
 use Rattle.std.specs.Int.{abs_diff}
 use Rattle.measure.specs.declared.refusal.Refusal.{Refusal}
@@ -9,7 +9,7 @@ use Rattle.gauge.specs.declared.sample.Sample.{Sample}
 use Rattle.gauge.specs.declared.gate.state.State.{State}
 use Rattle.gauge.specs.declared.gate.state.State.TheVariants.{Empty, Settled, Suspect, Lost}
 use Rattle.gauge.specs.GateStates.{state_after}
-use Rattle.gauge.specs.Gates.{state_says, gate_meaning, stepped}
+use Rattle.gauge.specs.Gates.{state_says, near_has, doubted_has, gate_meaning, stepped}
 use Rattle.gauge.specs.Gauges.{GaugeMeaning}
 use Rattle.gauge.specs.Samples.{first_wrong}
 use Rattle.gauge.specs.GateLaws.{held_from, held_after, doubts, Told, repeated, held_by, told_by, Follows, GateLaws}
@@ -23,23 +23,15 @@ Counted a history (Settled held) = Unit {0}
 Counted a history (Suspect held count) = count ≤ doubts a held history
 Counted a history (Lost held) = Unit {0}
 
--- a doubted level: one more doubt
-doubted : (a r held count g : ℕ) (history : List (Result ℕ Refusal)) → count ≤ doubts a held history + 1 → Counted a (Ok g ∷ history) (cond (leb (abs_diff g held) a) (Settled g) (cond (ltb r count) (Lost g) (Suspect held count)))
-doubted a r held count g history most =
-    cond_both (leb (abs_diff g held) a) (Settled g) (cond (ltb r count) (Lost g) (Suspect held count)) (Counted a (Ok g ∷ history))
-    (λ _. tt)
-    (λ outside. cond_both (ltb r count) (Lost g) (Suspect held count) (Counted a (Ok g ∷ history)) (λ _. tt)
-    (λ _. subst (λ (n : ℕ). count ≤ n) (sym (cond-false (leb (abs_diff g held) a) 0 (doubts a held history + 1) outside)) most))
-
 counted_step : (a r : ℕ) (history : List (Result ℕ Refusal)) (state : State) (told : Result ℕ Refusal) → Counted a history state → Counted a (told ∷ history) (state_after a r state told)
 counted_step a r history Empty (Err f) c = tt
 counted_step a r history (Settled held) (Err f) c = tt
 counted_step a r history (Suspect held count) (Err f) c = c
 counted_step a r history (Lost held) (Err f) c = tt
 counted_step a r history Empty (Ok g) c = tt
-counted_step a r history (Settled held) (Ok g) c = doubted a r held 1 g history (omega arith)
-counted_step a r history (Suspect held count) (Ok g) c = doubted a r held (count + 1) g history (omega arith)
-counted_step a r history (Lost held) (Ok g) c = cond_both (leb (abs_diff g held) a) (Settled g) (Lost g) (Counted a (Ok g ∷ history)) (λ _. tt) (λ _. tt)
+counted_step a r history (Settled held) (Ok g) c = doubted_has (Counted a (Ok g ∷ history)) a r held 1 g tt tt (λ far most. grind (arith, nat_tests, far))
+counted_step a r history (Suspect held count) (Ok g) c = doubted_has (Counted a (Ok g ∷ history)) a r held (count + 1) g tt tt (λ far most. grind (arith, nat_tests, far, c))
+counted_step a r history (Lost held) (Ok g) c = near_has (Counted a (Ok g ∷ history)) a held g (Lost g) tt (λ far. tt)
 
 counted : (a r : ℕ) (history : List (Result ℕ Refusal)) → Counted a history (held_after a r history)
 counted a r [] = tt
@@ -47,7 +39,7 @@ counted a r (told ∷ history) = counted_step a r history (held_after a r histor
 
 lost_step : (a r : ℕ) (history : List (Result ℕ Refusal)) (state : State) (told : Result ℕ Refusal) (g : ℕ) → Counted a history state → ((x : ℕ) → state ≡ Lost x → ⊥) → state_after a r state told ≡ Lost g → (level : ℕ) × (state_says state told ≡ Ok level) × (r < doubts a level (told ∷ history))
 lost_step a r history state (Err f) g c n e = absurd (n g e)
-lost_step a r history Empty (Ok h) g c n e = let z : ◌≡◌ {A = ℕ} 0 1 = cc in absurd (omega arith)
+lost_step a r history Empty (Ok h) g c n e = absurd cc
 lost_step a r history (Settled held) (Ok h) g c n e = (held, refl, grind (arith, nat_tests, e))
 lost_step a r history (Suspect held count) (Ok h) g c n e = (held, refl, grind (arith, nat_tests, e, c))
 lost_step a r history (Lost held) (Ok h) g c n e = absurd (n held refl)
@@ -60,31 +52,26 @@ Kept history (Settled held) = Told held history
 Kept history (Suspect held count) = Told held history
 Kept history (Lost held) = Told held history
 
-kept_doubted : (r held count g : ℕ) (history : List (Result ℕ Refusal)) → Told held history → Kept (Ok g ∷ history) (cond (ltb r count) (Lost g) (Suspect held count))
-kept_doubted r held count g history k = cond_both (ltb r count) (Lost g) (Suspect held count) (Kept (Ok g ∷ history)) (λ _. inl refl) (λ _. inr k)
-
 kept_step : (a r : ℕ) (history : List (Result ℕ Refusal)) (state : State) (told : Result ℕ Refusal) → Kept history state → Kept (told ∷ history) (state_after a r state told)
 kept_step a r history Empty (Err f) k = tt
 kept_step a r history (Settled held) (Err f) k = inr k
 kept_step a r history (Suspect held count) (Err f) k = inr k
 kept_step a r history (Lost held) (Err f) k = inr k
 kept_step a r history Empty (Ok g) k = inl refl
-kept_step a r history (Settled held) (Ok g) k =
-    cond_both (leb (abs_diff g held) a) (Settled g) (cond (ltb r 1) (Lost g) (Suspect held 1)) (Kept (Ok g ∷ history)) (λ _. inl refl) (λ _. kept_doubted r held 1 g history k)
-kept_step a r history (Suspect held count) (Ok g) k =
-    cond_both (leb (abs_diff g held) a) (Settled g) (cond (ltb r (count + 1)) (Lost g) (Suspect held (count + 1))) (Kept (Ok g ∷ history)) (λ _. inl refl) (λ _. kept_doubted r held (count + 1) g history k)
-kept_step a r history (Lost held) (Ok g) k = cond_both (leb (abs_diff g held) a) (Settled g) (Lost g) (Kept (Ok g ∷ history)) (λ _. inl refl) (λ _. inl refl)
+kept_step a r history (Settled held) (Ok g) k = doubted_has (Kept (Ok g ∷ history)) a r held 1 g (inl refl) (inl refl) (λ far most. inr k)
+kept_step a r history (Suspect held count) (Ok g) k = doubted_has (Kept (Ok g ∷ history)) a r held (count + 1) g (inl refl) (inl refl) (λ far most. inr k)
+kept_step a r history (Lost held) (Ok g) k = near_has (Kept (Ok g ∷ history)) a held g (Lost g) (inl refl) (λ far. inl refl)
 
 kept : (a r : ℕ) (history : List (Result ℕ Refusal)) → Kept history (held_after a r history)
 kept a r [] = tt
 kept a r (told ∷ history) = kept_step a r history (held_after a r history) told (kept a r history)
 
 said : (history : List (Result ℕ Refusal)) (state : State) (told : Result ℕ Refusal) (level : ℕ) → Kept history state → state_says state told ≡ Ok level → Told level history
-said history state (Err f) level k e = let z : ◌≡◌ {A = ℕ} 0 1 = cc in absurd (omega arith)
-said history Empty (Ok g) level k e = let z : ◌≡◌ {A = ℕ} 0 1 = cc in absurd (omega arith)
+said history state (Err f) level k e = absurd cc
+said history Empty (Ok g) level k e = absurd cc
 said history (Settled held) (Ok g) level k e = let same : held ≡ level = cc in subst (λ (l : ℕ). Told l history) same k
 said history (Suspect held count) (Ok g) level k e = let same : held ≡ level = cc in subst (λ (l : ℕ). Told l history) same k
-said history (Lost held) (Ok g) level k e = let z : ◌≡◌ {A = ℕ} 0 1 = cc in absurd (omega arith)
+said history (Lost held) (Ok g) level k e = absurd cc
 
 -- ---- settling
 
@@ -95,22 +82,17 @@ Reached r g n (Settled held) = held ≡ g
 Reached r g n (Suspect held count) = (n ≤ count) × (count ≤ r)
 Reached r g n (Lost held) = held ≡ g
 
-reached_doubted : (r held count g n : ℕ) → n ≤ count → Reached r g n (cond (ltb r count) (Lost g) (Suspect held count))
-reached_doubted r held count g n most = cond_both (ltb r count) (Lost g) (Suspect held count) (Reached r g n) (λ _. refl) (λ within. (most, ltb-false r count within))
-
 reached_next : (a r g n : ℕ) (state : State) → Reached r g n state → Reached r g (suc n) (state_after a r state (Ok g))
 reached_next a r g n Empty k = absurd k
-reached_next a r g n (Settled held) k = cond_both (leb (abs_diff g held) a) (Settled g) (cond (ltb r 1) (Lost g) (Suspect held 1)) (Reached r g (suc n)) (λ _. refl)
-    (λ outside. let far = leb-false (abs_diff g held) a outside in absurd (omega arith))
-reached_next a r g n (Suspect held count) k = cond_both (leb (abs_diff g held) a) (Settled g) (cond (ltb r (count + 1)) (Lost g) (Suspect held (count + 1))) (Reached r g (suc n)) (λ _. refl)
-    (λ _. let least = k.0 in reached_doubted r held (count + 1) g (suc n) (omega arith))
-reached_next a r g n (Lost held) k = cond_both (leb (abs_diff g held) a) (Settled g) (Lost g) (Reached r g (suc n)) (λ _. refl) (λ _. refl)
+reached_next a r g n (Settled held) k = doubted_has (Reached r g (suc n)) a r held 1 g refl refl (λ far most. absurd (omega arith))
+reached_next a r g n (Suspect held count) k = doubted_has (Reached r g (suc n)) a r held (count + 1) g refl refl (λ far most. let least = k.0 in (omega arith, most))
+reached_next a r g n (Lost held) k = near_has (Reached r g (suc n)) a held g (Lost g) refl (λ far. refl)
 
 reached_first : (a r g : ℕ) (state : State) → Reached r g 1 (state_after a r state (Ok g))
 reached_first a r g Empty = refl
-reached_first a r g (Settled held) = cond_both (leb (abs_diff g held) a) (Settled g) (cond (ltb r 1) (Lost g) (Suspect held 1)) (Reached r g 1) (λ _. refl) (λ _. reached_doubted r held 1 g 1 (omega arith))
-reached_first a r g (Suspect held count) = cond_both (leb (abs_diff g held) a) (Settled g) (cond (ltb r (count + 1)) (Lost g) (Suspect held (count + 1))) (Reached r g 1) (λ _. refl) (λ _. reached_doubted r held (count + 1) g 1 (omega arith))
-reached_first a r g (Lost held) = cond_both (leb (abs_diff g held) a) (Settled g) (Lost g) (Reached r g 1) (λ _. refl) (λ _. refl)
+reached_first a r g (Settled held) = doubted_has (Reached r g 1) a r held 1 g refl refl (λ far most. (omega arith, most))
+reached_first a r g (Suspect held count) = doubted_has (Reached r g 1) a r held (count + 1) g refl refl (λ far most. (omega arith, most))
+reached_first a r g (Lost held) = near_has (Reached r g 1) a held g (Lost g) refl (λ far. refl)
 
 abbrev held_at : ℕ → ℕ → State → ℕ → ℕ → State
 held_at a r state g n = held_from a r state (repeated n (Ok g))
@@ -149,34 +131,16 @@ module _ {G : Type 0} (m : GaugeMeaning G) (gate : Gate G) where
   step_by true s samples e f =
       let held = held_by (gate_meaning m) gate samples in
       let below = held_by m gate.below samples in
-      let same : held_by (gate_meaning m) gate (s ∷ samples) ≡ held = cond-true (is_some (first_wrong s)) held (stepped m held s) e in
-      let history : told_by m gate.below (s ∷ samples) ≡ told_by m gate.below samples = cond-true (is_some (first_wrong s)) (told_by m gate.below samples) (m.says (m.after below s) ∷ told_by m gate.below samples) e in
-      record {
-        same_below = ap (λ (g : Gate G). g.below) same ∙ f.same_below ∙ sym (unmoved m below s (first_wrong s) refl e);
-        same_allowance = ap (λ (g : Gate G). g.allowance) same ∙ f.same_allowance;
-        same_retries = ap (λ (g : Gate G). g.retries) same ∙ f.same_retries;
-        same_state = ap (λ (g : Gate G). g.state) same ∙ f.same_state ∙ sym (ap (held_from gate.allowance gate.retries gate.state) history);
-      }
+      let same : held_by (gate_meaning m) gate (s ∷ samples) ≡ held = cond-true _ _ _ e in
+      let history : told_by m gate.below (s ∷ samples) ≡ told_by m gate.below samples = cond-true _ _ _ e in
+      let still = unmoved m below s (first_wrong s) refl e in
+      record { same_below = cc; same_allowance = cc; same_retries = cc; same_state = cc }
   step_by false s samples e f =
       let held = held_by (gate_meaning m) gate samples in
       let below = held_by m gate.below samples in
-      let same : held_by (gate_meaning m) gate (s ∷ samples) ≡ stepped m held s = cond-false (is_some (first_wrong s)) held (stepped m held s) e in
-      let history : told_by m gate.below (s ∷ samples) ≡ m.says (m.after below s) ∷ told_by m gate.below samples = cond-false (is_some (first_wrong s)) (told_by m gate.below samples) (m.says (m.after below s) ∷ told_by m gate.below samples) e in
-      let after : G → G = λ g. m.after g s in
-      let says : G → Result ℕ Refusal = m.says in
-      let moved : m.after held.below s ≡ m.after below s = ap after f.same_below in
-      let told : m.says (m.after held.below s) ≡ m.says (m.after below s) = ap says moved in
-      let next : state_after held.allowance held.retries held.state (m.says (m.after held.below s)) ≡ state_after gate.allowance gate.retries (held_from gate.allowance gate.retries gate.state (told_by m gate.below samples)) (m.says (m.after below s)) =
-      ap (λ (n : ℕ). state_after n held.retries held.state (m.says (m.after held.below s))) f.same_allowance
-      ∙ ap (λ (n : ℕ). state_after gate.allowance n held.state (m.says (m.after held.below s))) f.same_retries
-      ∙ ap (λ (x : State). state_after gate.allowance gate.retries x (m.says (m.after held.below s))) f.same_state
-      ∙ ap (state_after gate.allowance gate.retries (held_from gate.allowance gate.retries gate.state (told_by m gate.below samples))) told in
-      record {
-        same_below = ap (λ (g : Gate G). g.below) same ∙ moved;
-        same_allowance = ap (λ (g : Gate G). g.allowance) same ∙ f.same_allowance;
-        same_retries = ap (λ (g : Gate G). g.retries) same ∙ f.same_retries;
-        same_state = ap (λ (g : Gate G). g.state) same ∙ next ∙ sym (ap (held_from gate.allowance gate.retries gate.state) history);
-      }
+      let same : held_by (gate_meaning m) gate (s ∷ samples) ≡ stepped m held s = cond-false _ _ _ e in
+      let history : told_by m gate.below (s ∷ samples) ≡ m.says (m.after below s) ∷ told_by m gate.below samples = cond-false _ _ _ e in
+      record { same_below = cc; same_allowance = cc; same_retries = cc; same_state = cc }
 
   pub follows : (samples : List Sample) → Follows m gate samples
   follows [] = record { same_below = refl; same_allowance = refl; same_retries = refl; same_state = refl }

@@ -1,9 +1,9 @@
 -- The meaning of a gate.
-use Rattle.std.specs.Prelude.{◌≡◌, ℕ, ◌+◌, ◌≤◌, min, true, cond, pos, is_some, Some, Ok, Err, Result, nat_le, nat_lt, refl}
+use Rattle.std.specs.Prelude.{◌≡◌, ℕ, ◌+◌, ◌<◌, ◌≤◌, min, true, cond, pos, is_some, Some, Ok, Err, Result, nat_le, nat_lt, refl}
 use Rattle.std.proofs.Common.{ap, arith}
 use Rattle.std.proofs.Math.Bool.{Bool-set}
 use mathlib.Core.HLevel.{is_prop→PathP}
-use Rattle.std.proofs.lemmas.Bool.{le-leb, leb-true, cond_both, cond-true}
+use Rattle.std.proofs.lemmas.Bool.{le-leb, leb-true, leb-false, ltb-false, cond_both, cond-true}
 use Rattle.std.specs.Int.{abs_diff}
 use Rattle.measure.specs.Limits.{highest_level}
 use Rattle.measure.specs.declared.refusal.Refusal.{Refusal}
@@ -34,32 +34,41 @@ state_says (Settled held) (Ok g) = Ok held
 state_says (Suspect held count) (Ok g) = Ok held
 state_says (Lost held) (Ok g) = Err (refusal GateLost (pos held))
 
+-- ---- the cases of a step
+
+-- a property of the state that a level g leads to, over a held level: g is within the allowance, or farther
+pub near_has : (P : State → Type 0) (allowance held g : ℕ) (farther : State) → P (Settled g) → (allowance < abs_diff g held → P farther)
+    → P (cond (nat_le (abs_diff g held) allowance) (Settled g) farther)
+near_has P a held g farther near far = cond_both (nat_le (abs_diff g held) a) (Settled g) farther P (λ _. near) (λ no. far (leb-false (abs_diff g held) a no))
+
+-- the same where g is doubted: it is within the allowance, or lost, or counted
+pub doubted_has : (P : State → Type 0) (allowance retries held count g : ℕ) → P (Settled g) → P (Lost g) → (allowance < abs_diff g held → count ≤ retries → P (Suspect held count))
+    → P (cond (nat_le (abs_diff g held) allowance) (Settled g) (cond (nat_lt retries count) (Lost g) (Suspect held count)))
+doubted_has P a r held count g settled lost suspect =
+    near_has P a held g (cond (nat_lt r count) (Lost g) (Suspect held count)) settled
+    (λ far. cond_both (nat_lt r count) (Lost g) (Suspect held count) P (λ _. lost) (λ no. suspect far (ltb-false r count no)))
+
 -- ---- its state keeps to the limit
-
-level_right : (n : ℕ) → n ≤ highest_level → nat_le n highest_level ≡ true
-level_right n h = le-leb n highest_level h
-
-doubted_right : (retries held count g : ℕ) → nat_le held highest_level ≡ true → nat_le g highest_level ≡ true → state_right (cond (nat_lt retries count) (Lost g) (Suspect held count)) ≡ true
-doubted_right retries held count g h k = cond_both (nat_lt retries count) (Lost g) (Suspect held count) (λ s. state_right s ≡ true) (λ _. k) (λ _. h)
 
 pub state_stays_right : (allowance retries : ℕ) (state : State) (below : Result ℕ Refusal) → state_right state ≡ true → ((n : ℕ) → below ≡ Ok n → n ≤ highest_level) → state_right (state_after allowance retries state below) ≡ true
 state_stays_right a r state (Err fault) h most = h
-state_stays_right a r Empty (Ok g) h most = level_right g (most g refl)
+state_stays_right a r Empty (Ok g) h most = le-leb g highest_level (most g refl)
 state_stays_right a r (Settled held) (Ok g) h most =
-    cond_both (nat_le (abs_diff g held) a) (Settled g) (cond (nat_lt r 1) (Lost g) (Suspect held 1)) (λ s. state_right s ≡ true)
-    (λ _. level_right g (most g refl)) (λ _. doubted_right r held 1 g h (level_right g (most g refl)))
+    let new = le-leb g highest_level (most g refl) in
+    doubted_has (λ s. state_right s ≡ true) a r held 1 g new new (λ _ _. h)
 state_stays_right a r (Suspect held count) (Ok g) h most =
-    cond_both (nat_le (abs_diff g held) a) (Settled g) (cond (nat_lt r (count + 1)) (Lost g) (Suspect held (count + 1))) (λ s. state_right s ≡ true)
-    (λ _. level_right g (most g refl)) (λ _. doubted_right r held (count + 1) g h (level_right g (most g refl)))
+    let new = le-leb g highest_level (most g refl) in
+    doubted_has (λ s. state_right s ≡ true) a r held (count + 1) g new new (λ _ _. h)
 state_stays_right a r (Lost held) (Ok g) h most =
-    cond_both (nat_le (abs_diff g held) a) (Settled g) (Lost g) (λ s. state_right s ≡ true) (λ _. level_right g (most g refl)) (λ _. level_right g (most g refl))
+    let new = le-leb g highest_level (most g refl) in
+    near_has (λ s. state_right s ≡ true) a held g (Lost g) new (λ _. new)
 
 pub says_most : (state : State) (below : Result ℕ Refusal) (level : ℕ) → state_right state ≡ true → state_says state below ≡ Ok level → level ≤ highest_level
-says_most state (Err fault) level h e = let z : ◌≡◌ {A = ℕ} 0 1 = cc in absurd (omega arith)
-says_most Empty (Ok g) level h e = let z : ◌≡◌ {A = ℕ} 0 1 = cc in absurd (omega arith)
+says_most state (Err fault) level h e = absurd cc
+says_most Empty (Ok g) level h e = absurd cc
 says_most (Settled held) (Ok g) level h e = let same : held ≡ level = cc in let most = leb-true held highest_level h in omega arith
 says_most (Suspect held count) (Ok g) level h e = let same : held ≡ level = cc in let most = leb-true held highest_level h in omega arith
-says_most (Lost held) (Ok g) level h e = let z : ◌≡◌ {A = ℕ} 0 1 = cc in absurd (omega arith)
+says_most (Lost held) (Ok g) level h e = absurd cc
 
 -- gates that hold the same are the same
 pub same_gate : {G : Type 0} (g h : Gate G) → g.below ≡ h.below → g.allowance ≡ h.allowance → g.retries ≡ h.retries → g.state ≡ h.state → g ≡ h

@@ -1,6 +1,5 @@
 -- The meaning of a pair of gauges.
 use Rattle.std.specs.Prelude.{◌≡◌, ℕ, ◌≤◌, Some, Ok, Err, Result}
-use Rattle.std.proofs.Common.{arith}
 use Rattle.measure.specs.Limits.{highest_level}
 use Rattle.measure.specs.declared.refusal.Refusal.{Refusal}
 use Rattle.gauge.specs.declared.sample.Sample.{Sample}
@@ -17,7 +16,7 @@ level_of (Err fault) (Err other) = Err fault
 pub level_most : (first second : Result ℕ Refusal) (level : ℕ) → ((n : ℕ) → first ≡ Ok n → n ≤ highest_level) → ((n : ℕ) → second ≡ Ok n → n ≤ highest_level) → level_of first second ≡ Ok level → level ≤ highest_level
 level_most (Ok l) second level p q e = p level e
 level_most (Err f) (Ok l) level p q e = q level e
-level_most (Err f) (Err o) level p q e = let z : ◌≡◌ {A = ℕ} 0 1 = cc in absurd (omega arith)
+level_most (Err f) (Err o) level p q e = absurd cc
 
 module _ {A B : Type 0} (a : GaugeMeaning A) (b : GaugeMeaning B) where
   abbrev pub pair_says : Pair A B → Result ℕ Refusal
