@@ -1,25 +1,18 @@
 -- What the whole-number working of a line answers is its exact coefficient, rounded.
-use Rattle.std.proofs.Common.{◌≡◌, ℕ, ◌+◌, ◌-◌, ◌*◌, ◌<◌, ◌≤◌, true, leb, ℤ, pos, ◌*ℤ◌, nat_abs, is_some, Some, Ok, Err, Option, Result, sym, ap, ◌∙◌, subst, arith}
+use Rattle.std.proofs.Common.{◌≡◌, ℕ, ◌+◌, ◌-◌, ◌*◌, ◌<◌, ◌≤◌, true, leb, ℤ, pos, ◌*ℤ◌, nat_abs, Some, Ok, Option, Result, sym, ap, ◌∙◌, subst, arith}
 use borrow.Author.Differences.{ints, up, down, product_is}
-use Rattle.std.proofs.lemmas.Bool.{and_parts, leb-true, cond-true}
+use Rattle.std.proofs.lemmas.Bool.{and_parts, leb-true}
 use Rattle.std.proofs.lemmas.Bool.Decides.{nat_tests}
 use Rattle.measure.specs.declared.refusal.Refusal.{Refusal}
-use Rattle.measure.specs.declared.refusal.Cause.TheVariants.{DensityOutside}
 use Rattle.measure.specs.Fractions.{natural, over, numerator, ◌⊗◌, ◌≃◌}
 use Rattle.measure.specs.Rounding.{rounded, rounded_fraction}
-use Rattle.measure.specs.Refusals.{refusal}
 use Rattle.product.specs.declared.api.ApiRule.{ApiRule}
 use Rattle.product.specs.declared.api.line.Line.{Line}
 use Rattle.product.specs.declared.api.ApiRule.TheVariants.{Crude, Products, Lubricants}
 use Rattle.product.specs.Lines.{line_for}
 use Rattle.product.specs.Rules.{greatest_density, million_millionths, covered, answered}
-use Rattle.product.specs.ApiRules.{front, rise, fall, lowest, highest, range_least, square_some, plain, line_coefficient, line_is, coefficient_on, api_coefficient, bounded_on, alike, right, Within, within, bounded_there, api_meaning}
+use Rattle.product.specs.ApiRules.{front, rise, fall, lowest, highest, range_least, range_most, square_some, plain, line_coefficient, line_is, coefficient_on, api_coefficient, bounded_on, Within, within, bounded_there, api_meaning}
 use Rattle.product.proofs.Rounded.{rounded_same}
-
-spread : (f u d sq n : ℕ) → n + d * sq ≡ f + u * sq
-    → (1000000000000 * ((f * 1 + u * sq) * 1 + (0 + d * sq) * 0) + 0 * ((f * 1 + u * sq) * 0 + (0 + d * sq) * 1)) * sq + 0 * (1 * (sq * 1 * 1000000000000))
-    ≡ n * (1 * (sq * 1 * 1000000000000)) + (1000000000000 * ((f * 1 + u * sq) * 0 + (0 + d * sq) * 1) + 0 * ((f * 1 + u * sq) * 1 + (0 + d * sq) * 0)) * sq
-spread f u d sq n e = omega (arith, ap (λ (m : ℕ). m * (sq * 1000000000000)) e)
 
 -- the exact coefficient times 10^12 is the quotient of the working
 same_quotient : (l : Line) (r n : ℕ) (h : 0 < r * r) → Within l r → n ≡ rise l r - fall l r → natural 1000000000000 ⊗ plain l r h ≃ over n (r * r) h
@@ -27,10 +20,9 @@ same_quotient l r n h w e =
     let k2 = product_is (pos 10000) l.k2 in
     let least = w.least in
     let whole_n : n + fall l r ≡ rise l r = omega arith in
-    let up_part = ap (λ (m : ℕ). m * (r * r)) k2.0 in
-    let down_part = ap (λ (m : ℕ). m * (r * r)) k2.1 in
-    let parts : n + down (pos 10000 *ℤ l.k2) * (r * r) ≡ front l r + up (pos 10000 *ℤ l.k2) * (r * r) = omega arith in
-    spread (front l r) (up (pos 10000 *ℤ l.k2)) (down (pos 10000 *ℤ l.k2)) (r * r) n parts
+    let parts : n + down (pos 10000 *ℤ l.k2) * (r * r) ≡ front l r + up (pos 10000 *ℤ l.k2) * (r * r) =
+    omega (arith, ap (λ (m : ℕ). m * (r * r)) k2.0, ap (λ (m : ℕ). m * (r * r)) k2.1) in
+    omega (arith, ap (λ (m : ℕ). m * (r * r * 1000000000000)) parts)
 
 api_value : (l : Line) (r n q : ℕ) (h : 0 < r * r) → Within l r → n ≡ rise l r - fall l r → pos q ≡ rounded (pos n) (r * r) → q ≡ million_millionths (line_coefficient l r)
 api_value l r n q h w e told =
@@ -41,27 +33,22 @@ api_value l r n q h w e told =
 
 -- ---- a line that was found
 
--- no line covers a density above those of any rule
-found_most : (rule : ApiRule) (r : ℕ) (l : Line) → line_for rule r ≡ Some l → r ≤ greatest_density
-found_most Crude r l e = grind (arith, nat_tests, e)
-found_most Products r l e = grind (arith, nat_tests, e)
-found_most Lubricants r l e = grind (arith, nat_tests, e)
-
 found_covers : (rule : ApiRule) (r : ℕ) (l : Line) → line_for rule r ≡ Some l → covered api_meaning rule r ≡ true
-found_covers rule r l e = subst (λ (o : Option Line). alike (is_some o) (covered api_meaning rule r) ≡ true) e (and_parts _ _ (right rule r (found_most rule r l e))).0
+found_covers Crude r l e = grind (arith, nat_tests, e)
+found_covers Products r l e = grind (arith, nat_tests, e)
+found_covers Lubricants r l e = grind (arith, nat_tests, e)
 
-found_some : (rule : ApiRule) (r : ℕ) (l : Line) → line_for rule r ≡ Some l → 0 < r * r
-found_some rule r l e =
-    let low = leb-true _ _ (and_parts (leb (lowest rule) r) (leb r (highest rule)) (found_covers rule r l e)).0 in
-    square_some r (omega (arith, range_least rule))
-
-found_within : (rule : ApiRule) (r : ℕ) (l : Line) → line_for rule r ≡ Some l → Within l r
-found_within rule r l e = within l r (subst (λ (o : Option Line). bounded_on o r ≡ true) e (bounded_there rule r (found_most rule r l e)))
+found_here : (rule : ApiRule) (r : ℕ) (l : Line) → line_for rule r ≡ Some l → Within l r × (r ≤ greatest_density) × (0 < r * r)
+found_here rule r l e =
+    let range = and_parts (leb (lowest rule) r) (leb r (highest rule)) (found_covers rule r l e) in
+    let least = leb-true _ _ range.0 in
+    let most : r ≤ greatest_density = omega (arith, leb-true _ _ range.1, range_most rule) in
+    (within l r (subst (λ (o : Option Line). bounded_on o r ≡ true) e (bounded_there rule r most)), most, square_some r (omega (arith, range_least rule)))
 
 -- what the working may ask of it
 pub found_limits : (rule : ApiRule) (density r : ℕ) (l : Line) → line_for rule density ≡ Some l → r ≡ density → Within l r × (r ≤ greatest_density) × (0 < r * r)
 found_limits rule density r l e same =
-    subst (λ (m : ℕ). Within l m × (m ≤ greatest_density) × (0 < m * m)) (sym same) (found_within rule density l e, found_most rule density l e, found_some rule density l e)
+    subst (λ (m : ℕ). Within l m × (m ≤ greatest_density) × (0 < m * m)) (sym same) (found_here rule density l e)
 
 -- what the working answers by it
 pub found_answer : (rule : ApiRule) (density r n q : ℕ) (l : Line) → line_for rule density ≡ Some l → r ≡ density
@@ -71,5 +58,4 @@ found_answer rule density r n q l e same difference told =
     let value = api_value l r n q limits.2 limits.0 difference told in
     let there : line_coefficient l r ≡ api_coefficient rule density = ap (line_coefficient l) same ∙ ap (λ (o : Option Line). coefficient_on o density) (sym e) in
     let say : ℕ → Result ℕ Refusal = λ k. Ok k in
-    ap say (value ∙ ap million_millionths there)
-    ∙ sym (cond-true (covered api_meaning rule density) (say (million_millionths (api_coefficient rule density))) (Err (refusal DensityOutside (pos density))) (found_covers rule density l e))
+    rw (found_covers rule density l e) (ap say (value ∙ ap million_millionths there))
