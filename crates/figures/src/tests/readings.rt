@@ -59,7 +59,9 @@ fn reading_of_crude(rt: &impl Abort, method: Method) -> Result<Figures, Fail> {
     let at_level = table.tenths(55_555)?;
     let at_water = table.tenths(0)?;
     let coefficient = ApiRule::Crude.coefficient(1_700)?;
-    assert!(rt; at_level == 5_555_500 && at_water == 0 && coefficient == 849_788_651);
+    assert_eq!(rt; at_level, 5_555_500);
+    assert_eq!(rt; at_water, 0);
+    assert_eq!(rt; coefficient, 849_788_651);
     let liquid = Liquid {
         elements: &EVENLY_WARM,
         water: 0,
@@ -114,7 +116,7 @@ fn a_reading_of_crude_by_method_2(rt: HostRuntime) -> Result<(), Fail> {
 #[test]
 fn a_printed_ticket_of_crude(rt: HostRuntime) -> Result<(), Fail> {
     let coefficient = ApiRule::Crude.coefficient(1_300)?;
-    assert!(rt; coefficient == 1_453_188_876);
+    assert_eq!(rt; coefficient, 1_453_188_876);
     let freezing = Temperature { ten_millionths: 0 };
     let ticket = Observation {
         at_level: 258_300,
