@@ -20,6 +20,7 @@ lines =
     ∷ line Lubricants 1600 2328 0 6278 (pos 0)
     ∷ []
 
+-- the equality that rules derive
 abbrev pub same_rule : ApiRule → ApiRule → Bool
 same_rule = eq-value.it
 
