@@ -1,4 +1,3 @@
-pub mod Answered
-pub mod Tenths
 pub mod RowPlaces
+pub mod FindMap
 pub mod RowTests

@@ -1,12 +1,16 @@
 -- Sound rows by their places: which rise, which is the last, and on which line a height lies.
-use Rattle.std.proofs.Common.{◌≡◌, ℕ, zero, suc, ◌+◌, ◌-◌, ◌<◌, ◌≤◌, true, leb, List, [], ◌∷◌, length, get_or, refl, ◌∙◌, not-suc-le-zero, arith}
+use Rattle.std.proofs.Common.{Bor, Some, None, Option, MatchOption, slice_get, ◌≡◌, ℕ, zero, suc, ◌+◌, ◌-◌, ◌<◌, ◌≤◌, max, true, false, leb, ltb, List, [], ◌∷◌, length, refl, ap, ◌∙◌, not-suc-le-zero, arith}
 use native.Mathlib.Numerals.{unary_clauses}
-use Rattle.std.proofs.lemmas.Bool.{le-leb, lt-leb, cond-true, cond-false}
+use Rattle.std.specs.Option.{option_copied}
+use Rattle.std.specs.List.Sorted.{IsNonDecreasingBy, IsPartitionPoint}
+use Rattle.std.proofs.lemmas.Bool.{le-leb, lt-leb, ltb-true, ltb-false, cond-true, cond-false}
 use Rattle.std.proofs.lemmas.Bool.Decides.{nat_tests}
+use Rattle.std.proofs.lemmas.Option.{none-some, same_Some, slice_get-get_or}
+use Rattle.std.proofs.lemmas.List.Sorted.{IsNonDecreasingBy-short, IsNonDecreasingBy-from_default}
 use Rattle.capacity.specs.declared.row.Row.{Row}
-use Rattle.capacity.specs.Rows.{sound, rows_reach, line, volume_above, rows_volume}
+use Rattle.capacity.specs.Rows.{sound, rows_reach, line, volume_above}
 use Rattle.capacity.specs.RowLaws.{Rises, Clear, next_rises, first_sound}
-use Rattle.capacity.specs.RowSearch.{row_at, Upper, Spans}
+use Rattle.capacity.specs.RowSearch.{row_at, Around}
 
 -- what stands where the rows have ended
 abbrev pub nowhere : Row
@@ -30,27 +34,30 @@ climb_above j low (next ∷ rows) zero (suc k) clear le inside =
 climb_above j low (next ∷ rows) (suc i) (suc k) clear le inside =
     climb_above (j + 1) next rows i k (next_rises j low next rows clear).1 (omega arith) (omega arith)
 
--- heights rise from the bottom row to the last
-pub climb : (rows : List Row) (i k : ℕ) → sound rows ≡ true → i ≤ k → k < length rows → (row_at rows i).height ≤ (row_at rows k).height
-climb [] i k s le inside = absurd (not-suc-le-zero inside)
-climb (first ∷ rows) i k s le inside = climb_above 1 first rows i k (first_sound first rows s).above le inside
-
-pub at_least_two : (rows : List Row) → sound rows ≡ true → 0 < length rows → 2 ≤ length rows
-at_least_two [] s some = absurd (not-suc-le-zero some)
-at_least_two (first ∷ rows) s some = grind (arith, nat_tests)
-
-pub bottom_is_zero : (rows : List Row) → sound rows ≡ true → (row_at rows 0).height ≡ 0
-bottom_is_zero [] s = refl
-bottom_is_zero (first ∷ rows) s = (first_sound first rows s).at_zero
+-- heights rise from row to row
+pub heights_rise : (rows : List Row) → sound rows ≡ true → IsNonDecreasingBy (λ (row : Row). row.height) rows
+heights_rise [] s = IsNonDecreasingBy-short (λ (row : Row). row.height) [] (omega arith)
+heights_rise (first ∷ above) s =
+    IsNonDecreasingBy-from_default (λ (row : Row). row.height) (first ∷ above) nowhere (λ i k le inside. climb_above 1 first above i k (first_sound first above s).above le inside)
 
 -- ---- the last row
 
-pub last_is_reach : (rows : List Row) (d : Row) → 0 < length rows → (get_or rows (length rows - 1) d).height + 1 ≡ rows_reach rows
-last_is_reach [] d some = absurd (not-suc-le-zero some)
-last_is_reach (row ∷ []) d some = refl
-last_is_reach (row ∷ (next ∷ rows)) d some =
-    let e = simp unary_clauses at (last_is_reach (next ∷ rows) d (omega arith)) in
-    simp unary_clauses e
+pub last_is_reach : (low : Row) (rows : List Row) → (row_at (low ∷ rows) (length rows)).height + 1 ≡ rows_reach (low ∷ rows)
+last_is_reach low [] = refl
+last_is_reach low (next ∷ rows) = last_is_reach next rows
+
+last_got : (low : Row) (rows : List Row) → slice_get (low ∷ rows) (length (low ∷ rows) - 1) ≡ Some (row_at (low ∷ rows) (length rows))
+last_got low rows = simp unary_clauses (slice_get-get_or (low ∷ rows) (length rows) nowhere (omega arith))
+
+-- the reach by the row that `last` lends
+abbrev pub ReachByLast : List Row → Option (Bor Row) → Type 0
+ReachByLast rows last = MatchOption last (rows_reach rows ≡ 0) (λ (row : Bor Row). row.now.height + 1 ≡ rows_reach rows)
+
+pub reach_by_last : (rows : List Row) (last : Option (Bor Row)) → option_copied last ≡ slice_get rows (length rows - 1) → ReachByLast rows last
+reach_by_last [] None e = refl
+reach_by_last [] (Some row) e = absurd (cc)
+reach_by_last (low ∷ rows) None e = absurd (none-some _ (e ∙ last_got low rows))
+reach_by_last (low ∷ rows) (Some row) e = ap (λ (top : Row). top.height + 1) (same_Some _ _ (e ∙ last_got low rows)) ∙ last_is_reach low rows
 
 -- ---- the pair of a height
 
@@ -61,43 +68,46 @@ on_line low (next ∷ rows) (suc i) h inside enough first =
     cond-false (leb h next.height) _ _ (lt-leb h next.height (first zero (omega arith)))
     ∙ on_line next rows i h (omega arith) enough (λ k l. first (suc k) (omega arith))
 
-volume_above_bottom : (rows : List Row) (i h : ℕ) → Upper rows h (suc i) → rows_volume rows h ≡ line (row_at rows i) (row_at rows (suc i)) h
-volume_above_bottom [] i h u = absurd (not-suc-le-zero u.inside)
-volume_above_bottom (first ∷ rows) i h u =
-    on_line first rows i h (let l = u.inside in omega arith) u.not_below (λ k l. u.first (suc k) (omega arith) (omega arith))
+-- the place parts the rows that are below h from those that are not
+abbrev pub Parted : List Row → ℕ → ℕ → Type 0
+Parted rows h place = IsPartitionPoint (λ (row : Row). ltb row.height h ≡ true) (λ (row : Row). ltb row.height h ≡ false) rows place
 
-spans_above_bottom : (rows : List Row) (i h : ℕ) → sound rows ≡ true → Upper rows h (suc i) → Spans (row_at rows i) (row_at rows (suc i)) h
-spans_above_bottom [] i h s u = absurd (not-suc-le-zero u.inside)
-spans_above_bottom (first ∷ rows) i h s u = record {
-  rises = rises_above 1 first rows i (first_sound first rows s).above (let l = u.inside in omega arith);
-  from_low = from_bottom i u;
-  to_high = u.not_below;
-}
+below : (rows : List Row) (h place : ℕ) → Parted rows h place → (k : ℕ) → k < place → (row_at rows k).height < h
+below rows h place parted k l = ltb-true (row_at rows k).height h (parted.0 k nowhere (omega arith) l)
+
+-- no row above the bottom one is at h or above it: the height is not covered
+pub beyond : (rows : List Row) (h place : ℕ) → sound rows ≡ true → Parted rows h place → length rows ≤ max place 1 → rows_reach rows ≤ h
+beyond [] h place s parted all = omega arith
+beyond (first ∷ []) h place s parted all = absurd (grind (arith, nat_tests, s))
+beyond (first ∷ (next ∷ rest)) h place s parted all =
+    let top = last_is_reach next rest in
+    let last = below (first ∷ (next ∷ rest)) h place parted (suc (length rest)) (omega arith) in
+    omega arith
+
+around_above : (first : Row) (above : List Row) (h place i : ℕ) → sound (first ∷ above) ≡ true → Parted (first ∷ above) h place → suc i ≡ max place 1 → i < length above → Around (first ∷ above) h (row_at (first ∷ above) i) (row_at above i)
+around_above first above h place i s parted at inside =
+    let f = first_sound first above s in
+    let zero_first = f.at_zero in
+    let enough = ltb-false (row_at above i).height h (parted.1 (suc i) nowhere (omega arith) (omega arith)) in
+    let lower = below (first ∷ above) h place parted in
+    let top = last_is_reach first above in
+    let up = climb_above 1 first above (suc i) (length above) f.above (omega arith) (omega arith) in
+    record {
+      covered = omega arith;
+      spans = record {
+        rises = rises_above 1 first above i f.above inside;
+        from_low = from_low i lower at;
+        to_high = enough;
+      };
+      on_line = on_line first above i h inside enough (λ k l. lower (suc k) (omega arith));
+    }
   where
-    from_bottom : (i : ℕ) → Upper (first ∷ rows) h (suc i) → (row_at (first ∷ rows) i).height ≤ h
-    from_bottom zero u = let z = (first_sound first rows s).at_zero in omega arith
-    from_bottom (suc i) u = let l = u.first (suc i) (omega arith) (omega arith) in omega arith
+    from_low : (i : ℕ) → ((k : ℕ) → k < place → (row_at (first ∷ above) k).height < h) → suc i ≡ max place 1 → (row_at (first ∷ above) i).height ≤ h
+    from_low zero lower at = let zero_first = (first_sound first above s).at_zero in omega arith
+    from_low (suc i) lower at = let l = lower (suc i) (omega arith) in omega arith
 
--- the volume is the line's to the upper row, from the row below that
-pub volume_at : (rows : List Row) (i h : ℕ) → Upper rows h i → rows_volume rows h ≡ line (row_at rows (i - 1)) (row_at rows i) h
-volume_at rows zero h u = absurd (not-suc-le-zero u.above_bottom)
-volume_at rows (suc i) h u = simp unary_clauses (volume_above_bottom rows i h u)
-
-pub spans_at : (rows : List Row) (i h : ℕ) → sound rows ≡ true → Upper rows h i → Spans (row_at rows (i - 1)) (row_at rows i) h
-spans_at rows zero h s u = absurd (not-suc-le-zero u.above_bottom)
-spans_at rows (suc i) h s u = simp unary_clauses (spans_above_bottom rows i h s u)
-
-pub covered_at : (rows : List Row) (i h : ℕ) → sound rows ≡ true → Upper rows h i → h < rows_reach rows
-covered_at rows i h s u =
-    let inside = u.inside in
-    let enough = u.not_below in
-    let up = climb rows i (length rows - 1) s (omega arith) (omega arith) in
-    omega (arith, last_is_reach rows nowhere (omega arith))
-
--- a height above the last row is not covered
-pub beyond_last : (rows : List Row) (h : ℕ) → 0 < length rows → (row_at rows (length rows - 1)).height < h → rows_reach rows ≤ h
-beyond_last rows h some above = omega (arith, last_is_reach rows nowhere some)
-
-pub nothing_covered : (rows : List Row) (h : ℕ) → length rows ≡ 0 → rows_reach rows ≤ h
-nothing_covered [] h none = omega arith
-nothing_covered (row ∷ rows) h none = absurd (omega arith)
+-- else it lies between the first such row and the one below that
+pub around : (rows : List Row) (h place upper : ℕ) → sound rows ≡ true → Parted rows h place → upper ≡ max place 1 → upper < length rows → Around rows h (row_at rows (upper - 1)) (row_at rows upper)
+around [] h place upper s parted at inside = absurd (not-suc-le-zero inside)
+around (first ∷ above) h place zero s parted at inside = absurd (omega arith)
+around (first ∷ above) h place (suc i) s parted at inside = simp unary_clauses (around_above first above h place i s parted at (omega arith))

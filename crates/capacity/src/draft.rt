@@ -29,7 +29,7 @@ impl<'a> Draft<'a> {
         ensures { result ≡ examined self.now.rows.now }
     {
         let count = self.rows.len();
-        if count < FEWEST_ROWS || count > MOST_ROWS {
+        if !(FEWEST_ROWS..=MOST_ROWS).contains(&count) {
             return Some(Cause::RowCount.at(count as i64));
         }
         let first = self.rows[0];
@@ -39,15 +39,11 @@ impl<'a> Draft<'a> {
         if first.litres > LARGEST_LITRES {
             return Some(Cause::RowLitres.at(0));
         }
-        let mut last = first;
-        for i in 1..count {
-            let row = self.rows[i];
-            if let Some(refusal) = row_refusal(i, last, row) {
-                return Some(refusal);
-            }
-            last = row;
-        }
-        None
+        self.rows
+            .iter()
+            .zip(&self.rows[1..])
+            .enumerate()
+            .find_map(|(i, (last, row))| row_refusal(i + 1, *last, *row))
     }
 
     /// The table of the rows, or the blank table where examination refuses them. Uses the draft up.

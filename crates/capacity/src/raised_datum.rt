@@ -2,9 +2,9 @@
 ghost use Rattle.std.specs.Prelude.{◌≡◌};
 ghost use Rattle.capacity.specs.Layers.{counted_rise, raised_meaning};
 
-use super::table::CapacityTable;
+use super::table::{CapacityTable, not_covered};
 use measure::limits::LARGEST_REACH;
-use measure::refusal::{Cause, Refusal};
+use measure::refusal::Refusal;
 
 /// The height `h` means `h + rise` of the table below.
 #[derive(Drop)]
@@ -34,7 +34,7 @@ impl<T: CapacityTable> CapacityTable for RaisedDatum<T> {
 
     fn tenths(&self, height: u32) -> Result<u64, Refusal> {
         if height >= self.reach() {
-            return Err(Cause::HeightNotCovered.at(i64::from(height)));
+            return Err(not_covered(height));
         }
         Ok(self.below.tenths(height + self.rise)?)
     }

@@ -27,11 +27,4 @@ impl<'a> Strapped<'a> {
     {
         Strapped { rows: &[] }
     }
-
-    pub(crate) fn rows(&self) -> &'a [Row]
-        ensures value { result.now ≡ self.now.rows.now }
-        ensures sound { sound result.now ≡ true }
-    {
-        self.rows
-    }
 }

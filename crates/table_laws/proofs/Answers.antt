@@ -6,7 +6,6 @@ use Rattle.measure.specs.Fractions.{Fraction, natural, none, whole, one_half, te
 use Rattle.measure.specs.Limits.{largest_litres}
 use Rattle.measure.specs.Rounding.{rounded_fraction}
 use Rattle.measure.proofs.Rounds.{fraction_rounding}
-use Rattle.capacity.proofs.Answered.{covered, refused}
 use Rattle.table_laws.specs.AnswerLaws.{AnswerLaws}
 use Rattle.capacity.specs.Tables.{TableMeaning, tenths_of, answered}
 
@@ -58,8 +57,8 @@ module _ {T : Type 0} (m : TableMeaning T) where
 
   pub answer_laws : AnswerLaws m
   answer_laws = record {
-    served = λ t h below. (tenths_of (m.volume t h), sym (covered m t h (tenths_of (m.volume t h)) below refl));
-    refused = λ t h above. sym (refused m t h above);
+    served = λ t h below. (tenths_of (m.volume t h), grind (arith, nat_tests));
+    refused = λ t h above. grind (arith, nat_tests);
     near = near;
     never_falls = never_falls;
     most = most;

@@ -8,22 +8,16 @@ use capacity::table::CapacityTable;
 
 /// For every kind of table: just the heights below the reach are answered, an answer is at most half a tenth of a
 /// litre from the exact volume, a greater height never holds less, and none holds more than 200,000,000 litres.
-pub fn answers_keep_their_laws<T: CapacityTable>(_table: &T) -> u8
+pub fn answers_keep_their_laws<T: CapacityTable>()
     ensures { AnswerLaws T.CapacityTable.meaning }
-{
-    0
-}
+{}
 
 /// A draft is refused for the first thing that is wrong with it, and one that is not refused is right throughout.
-pub fn examination_keeps_its_laws() -> u8
+pub fn examination_keeps_its_laws()
     ensures { ExaminationLaws }
-{
-    0
-}
+{}
 
 /// Between two neighbouring rows of a sealed table the volume runs in a straight line.
-pub fn sealed_rows_keep_straight_lines() -> u8
+pub fn sealed_rows_keep_straight_lines()
     ensures { StraightLines }
-{
-    0
-}
+{}

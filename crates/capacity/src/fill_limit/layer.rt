@@ -2,10 +2,10 @@
 ghost use Rattle.std.specs.Prelude.{◌≡◌};
 ghost use Rattle.capacity.specs.Layers.{counted_limit, limited_meaning};
 
-use super::super::table::CapacityTable;
+use super::super::table::{CapacityTable, not_covered};
 use super::FillLimit;
 use measure::limits::HIGHEST_LEVEL;
-use measure::refusal::{Cause, Refusal};
+use measure::refusal::Refusal;
 
 impl<T> FillLimit<T> {
     pub fn new(below: T, limit: u32) -> FillLimit<T>
@@ -28,7 +28,7 @@ impl<T: CapacityTable> CapacityTable for FillLimit<T> {
 
     fn tenths(&self, height: u32) -> Result<u64, Refusal> {
         if height > self.limit {
-            return Err(Cause::HeightNotCovered.at(i64::from(height)));
+            return Err(not_covered(height));
         }
         Ok(self.below.tenths(height)?)
     }

@@ -1,54 +1,39 @@
 //! What a strapped table answers.
-ghost use Rattle.std.specs.Prelude.{◌≡◌, ◌≤◌, true, MatchResult};
-ghost use Rattle.capacity.specs.Rows.{sound, rows_reach, line};
-ghost use Rattle.capacity.specs.RowSearch.{Upper, Spans};
+ghost use Rattle.std.specs.Prelude.{◌≡◌, ◌<◌, ◌≤◌, MatchOption};
+ghost use Rattle.capacity.specs.Rows.{rows_reach, rows_volume, line};
+ghost use Rattle.capacity.specs.RowSearch.{Spans, Around};
 ghost use Rattle.capacity.specs.StrappedTables.{strapped_meaning};
-ghost use Rattle.capacity.specs.Tables.{not_covered, tenths_of};
+ghost use Rattle.capacity.specs.Tables.{tenths_of};
 
 use super::super::row::Row;
-use super::super::table::CapacityTable;
+use super::super::table::{CapacityTable, not_covered};
 use super::Strapped;
-use measure::refusal::{Cause, Refusal};
+use measure::refusal::Refusal;
 use measure::rounding::rounded_quotient;
 
 impl<'a> CapacityTable for Strapped<'a> {
     ghost meaning = { strapped_meaning };
 
     fn reach(&self) -> u32 {
-        match self.rows().last() {
-            Some(row) => row.height + 1,
-            None => 0,
-        }
+        self.rows.last().map_or(0, |row| row.height + 1)
     }
 
     fn tenths(&self, height: u32) -> Result<u64, Refusal> {
-        let rows = self.rows();
-        let upper = upper_row(rows, height)?;
-        Ok(tenths_on_line(rows[upper - 1], rows[upper], height))
+        let (low, high) = self.rows_around(height).ok_or_else(|| not_covered(height))?;
+        Ok(tenths_on_line(low, high, height))
     }
 }
 
-/// The first row above the bottom one that is not below the height, found by halving.
-fn upper_row(rows: &[Row], height: u32) -> Result<usize, Refusal>
-    requires { sound rows.now ≡ true }
-    ensures { MatchResult result (Upper rows.now height)
-        (λ e. (e ≡ not_covered height) × (rows_reach rows.now ≤ height)) }
-{
-    let count = rows.len();
-    if count == 0 || height > rows[count - 1].height {
-        return Err(Cause::HeightNotCovered.at(i64::from(height)));
+impl<'a> Strapped<'a> {
+    /// The neighbouring rows between which the height lies, found by halving, or none where it is not covered.
+    fn rows_around(&self, height: u32) -> Option<(Row, Row)>
+        ensures { MatchOption result (rows_reach self.now.rows.now ≤ height)
+            (λ p. Around self.now.rows.now height p.0 p.1) }
+    {
+        let upper = self.rows.partition_point(|row| row.height < height).max(1);
+        let high = *self.rows.get(upper)?;
+        Some((self.rows[upper - 1], high))
     }
-    let mut low = 1;
-    let mut high = count - 1;
-    while low < high {
-        let middle = low + (high - low) / 2;
-        if rows[middle].height < height {
-            low = middle + 1;
-        } else {
-            high = middle;
-        }
-    }
-    Ok(low)
 }
 
 /// Ten times the litres on the straight line from `low` to `high`, rounded.

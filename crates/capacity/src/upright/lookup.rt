@@ -2,7 +2,7 @@
 ghost use Rattle.std.specs.Prelude.{◌≡◌, Some, None, MatchResult};
 ghost use Rattle.capacity.specs.UprightTables.{upright_refusal, upright_meaning};
 
-use super::super::table::CapacityTable;
+use super::super::table::{CapacityTable, not_covered};
 use super::Upright;
 use measure::limits::HIGHEST_LEVEL;
 use measure::refusal::{Cause, Refusal};
@@ -43,7 +43,7 @@ impl CapacityTable for Upright {
 
     fn tenths(&self, height: u32) -> Result<u64, Refusal> {
         if height > self.height {
-            return Err(Cause::HeightNotCovered.at(i64::from(height)));
+            return Err(not_covered(height));
         }
         let tenths_times_heights = 10 * u64::from(height) * u64::from(self.litres_per_metre);
         Ok(rounded_quotient(tenths_times_heights, HEIGHTS_PER_METRE))
