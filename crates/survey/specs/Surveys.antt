@@ -1,5 +1,6 @@
 -- What a survey says of a tank: why no table can be made of it, or the table's reach and volumes.
-use Rattle.std.specs.Prelude.{◌≡◌, ℕ, ◌+◌, ◌-◌, ◌*◌, ◌<◌, min, cond, Some, None, Err, Option, Result}
+use Rattle.std.specs.Prelude.{◌≡◌, ℕ, ◌+◌, ◌-◌, ◌*◌, ◌<◌, min, cond, Some, None, Ok, Err, Option, Result}
+use Rattle.std.specs.Result.{result_err}
 use Rattle.std.proofs.Common.{lit<}
 use Rattle.measure.specs.declared.refusal.Refusal.{Refusal}
 use Rattle.measure.specs.Fractions.{Fraction, over}
@@ -55,12 +56,28 @@ unless_refused None answer = answer
 abbrev pub dipped : Survey → ℕ → Result ℕ Refusal
 dipped s h = unless_refused (shape_refusal s.shape) (answer_of (survey_reach s) (survey_volume s) h)
 
+-- why a surveyed tank has no table
+abbrev pub tank_refusal : SurveyedTank → Option Refusal
+tank_refusal t = result_err t.table
+
+-- the heights that a tank's table covers: none where it has no table
+abbrev pub reach_of : Result (FillLimit (RaisedDatum Surveyed)) Refusal → ℕ
+reach_of (Ok table) = tank_meaning.reach table
+reach_of (Err e) = 0
+
+abbrev pub tank_reach : SurveyedTank → ℕ
+tank_reach t = reach_of t.table
+
+abbrev pub answer_from : Result (FillLimit (RaisedDatum Surveyed)) Refusal → ℕ → Result ℕ Refusal
+answer_from (Ok table) h = answered tank_meaning table h
+answer_from (Err e) h = Err e
+
 -- what a surveyed tank answers to a dip
 abbrev pub dip_answer : SurveyedTank → ℕ → Result ℕ Refusal
-dip_answer t h = unless_refused t.refused (answered tank_meaning t.table h)
+dip_answer t h = answer_from t.table h
 
 -- a tank that was made of a survey is refused, reaches and answers as the survey says
 pub record MadeOf (s : Survey) (t : SurveyedTank) : Type 0 where
-  pub same_refusal : t.refused ≡ shape_refusal s.shape
-  pub same_reach : tank_meaning.reach t.table ≡ survey_reach s
+  pub same_refusal : tank_refusal t ≡ shape_refusal s.shape
+  pub same_reach : tank_reach t ≡ survey_reach s
   pub same_dips : (h : ℕ) → dip_answer t h ≡ dipped s h

@@ -6,27 +6,26 @@ use capacity::table::CapacityTable;
 use capacity::upright::Upright;
 use measure::refusal::Refusal;
 
-/// The upright table where there is one, else the strapped one.
 #[derive(Clone, Copy)]
-pub struct Surveyed<'a> {
-    pub strapped: Strapped<'a>,
-    pub upright: Option<Upright>,
+pub enum Surveyed<'a> {
+    Strapped(Strapped<'a>),
+    Upright(Upright),
 }
 
 impl<'a> CapacityTable for Surveyed<'a> {
     ghost meaning = { surveyed_meaning };
 
     fn reach(&self) -> u32 {
-        match self.upright {
-            Some(upright) => upright.reach(),
-            None => self.strapped.reach(),
+        match self {
+            Surveyed::Strapped(table) => table.reach(),
+            Surveyed::Upright(table) => table.reach(),
         }
     }
 
     fn tenths(&self, height: u32) -> Result<u64, Refusal> {
-        match self.upright {
-            Some(upright) => upright.tenths(height),
-            None => self.strapped.tenths(height),
+        match self {
+            Surveyed::Strapped(table) => table.tenths(height),
+            Surveyed::Upright(table) => table.tenths(height),
         }
     }
 }

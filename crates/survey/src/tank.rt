@@ -1,14 +1,13 @@
 //! A surveyor's report on a tank, and the table that is made of it.
-ghost use Rattle.std.specs.Prelude.{◌≡◌};
+ghost use Rattle.std.specs.Prelude.{◌≡◌, Some, None, Ok, Err, MatchResult};
 ghost use Rattle.survey.specs.SurveyedTables.{surveyed_meaning};
-ghost use Rattle.survey.specs.Surveys.{shape_refusal, shape_reach, shape_volume, survey_reach, survey_volume, tank_meaning, dip_answer, Covers, MadeOf};
+ghost use Rattle.survey.specs.Surveys.{shape_refusal, shape_reach, shape_volume, survey_reach, survey_volume, tank_meaning, tank_refusal, tank_reach, dip_answer, Covers, MadeOf};
 
 use super::surveyed::Surveyed;
 use capacity::draft::Draft;
 use capacity::fill_limit::FillLimit;
 use capacity::raised_datum::RaisedDatum;
 use capacity::row::Row;
-use capacity::strapped::Strapped;
 use capacity::table::CapacityTable;
 use capacity::upright::Upright;
 use measure::refusal::Refusal;
@@ -28,93 +27,86 @@ pub struct Survey<'a> {
     pub limit: u32,
 }
 
-/// A surveyed tank: the table of its survey, which covers nothing where the survey is refused.
+/// A surveyed tank: the table of its survey, or why none can be made of it.
 #[derive(Drop)]
 pub struct SurveyedTank<'a> {
-    refused: Option<Refusal>,
-    table: FillLimit<RaisedDatum<Surveyed<'a>>>,
+    table: Result<FillLimit<RaisedDatum<Surveyed<'a>>>, Refusal>,
 }
 
 impl<'a> SurveyedTank<'a> {
     pub fn of(survey: &Survey<'a>) -> SurveyedTank<'a>
         ensures { MadeOf survey.now result }
     {
-        let examined = Examined::of(survey.shape);
         SurveyedTank {
-            refused: examined.refused,
-            table: layered(examined.table, survey),
+            table: survey.table(),
         }
     }
 
     /// Why no table could be made of the survey.
     pub fn refused(&self) -> Option<Refusal>
-        ensures { result ≡ self.now.refused }
+        ensures { result ≡ tank_refusal self.now }
     {
-        self.refused
+        self.table().err()
     }
 
-    /// The heights below this are covered.
+    /// The heights below this are covered: none where the survey is refused.
     pub fn reach(&self) -> u32
-        ensures { result ≡ tank_meaning.reach self.now.table }
+        ensures { result ≡ tank_reach self.now }
     {
-        self.table.reach()
+        self.table().map_or(0, |table| table.reach())
     }
 
     /// The tenths of a litre at a height, or the refusal of the survey, or of the height.
     pub fn dip(&self, height: u32) -> Result<u64, Refusal>
         ensures { result ≡ dip_answer self.now height }
     {
-        if let Some(refusal) = self.refused {
-            return Err(refusal);
-        }
-        Ok(self.table.tenths(height)?)
+        Ok(self.table()?.tenths(height)?)
+    }
+
+    fn table(&self) -> Result<&FillLimit<RaisedDatum<Surveyed<'a>>>, Refusal>
+        ensures { MatchResult result (λ table. self.now.table ≡ Ok table.now) (λ e. self.now.table ≡ Err e) }
+    {
+        self.table.as_ref().map_err(|refusal| *refusal)
     }
 }
 
-/// The survey's datum above the table, and its fill limit above that.
-fn layered<'a>(table: Surveyed<'a>, survey: &Survey<'a>) -> FillLimit<RaisedDatum<Surveyed<'a>>>
-    requires { Covers surveyed_meaning table (shape_reach survey.now.shape) (shape_volume survey.now.shape) }
-    ensures { Covers tank_meaning result (survey_reach survey.now) (survey_volume survey.now) }
-{
-    FillLimit::new(RaisedDatum::new(table, survey.datum), survey.limit)
-}
-
-/// What was surveyed, examined, and its table before the layers.
-#[derive(Clone, Copy)]
-struct Examined<'a> {
-    refused: Option<Refusal>,
-    table: Surveyed<'a>,
-}
-
-impl<'a> Examined<'a> {
-    fn of(shape: Shape<'a>) -> Examined<'a>
-        ensures refused { result.refused ≡ shape_refusal shape.entry }
-        ensures table { Covers surveyed_meaning result.table (shape_reach shape.entry) (shape_volume shape.entry) }
+impl<'a> Survey<'a> {
+    /// What was surveyed, the datum above it, and the fill limit above that.
+    fn table(&self) -> Result<FillLimit<RaisedDatum<Surveyed<'a>>>, Refusal>
+        ensures { MatchResult result
+            (λ table. (shape_refusal self.now.shape ≡ None)
+            × Covers tank_meaning table (survey_reach self.now) (survey_volume self.now))
+            (λ e. shape_refusal self.now.shape ≡ Some e) }
     {
-        match shape {
+        let table = self.shape.table()?;
+        Ok(FillLimit::new(RaisedDatum::new(table, self.datum), self.limit))
+    }
+}
+
+impl<'a> Shape<'a> {
+    /// The table of what was surveyed, before the layers.
+    fn table(self) -> Result<Surveyed<'a>, Refusal>
+        ensures { MatchResult result
+            (λ table. (shape_refusal self.entry ≡ None)
+            × Covers surveyed_meaning table (shape_reach self.entry) (shape_volume self.entry))
+            (λ e. shape_refusal self.entry ≡ Some e) }
+    {
+        match self {
             Shape::Strapped(rows) => {
                 let draft = Draft::of(rows);
                 let refused = draft.examine();
-                Examined {
-                    refused,
-                    table: Surveyed {
-                        strapped: draft.seal(),
-                        upright: None,
-                    },
+                let table = Surveyed::Strapped(draft.seal());
+                match refused {
+                    Some(refusal) => Err(refusal),
+                    None => Ok(table),
                 }
             }
             Shape::Upright {
                 height,
                 litres_per_metre,
             } => {
-                let made = Upright::new(height, litres_per_metre);
-                Examined {
-                    refused: made.err(),
-                    table: Surveyed {
-                        strapped: Strapped::blank(),
-                        upright: made.ok(),
-                    },
-                }
+                let upright = Upright::new(height, litres_per_metre)?;
+                Ok(Surveyed::Upright(upright))
             }
         }
     }
