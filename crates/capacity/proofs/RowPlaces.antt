@@ -1,9 +1,9 @@
 -- Sound rows by their places: which rise, which is the last, and on which line a height lies.
-use Rattle.std.proofs.Common.{Bor, Some, None, Option, MatchOption, slice_get, ◌≡◌, ℕ, zero, suc, ◌+◌, ◌-◌, ◌<◌, ◌≤◌, max, true, false, leb, ltb, List, [], ◌∷◌, length, refl, ap, ◌∙◌, not-suc-le-zero, arith}
+use Rattle.std.proofs.Common.{Bor, Some, None, Option, MatchOption, slice_get, ◌≡◌, ℕ, zero, suc, ◌+◌, ◌-◌, ◌<◌, ◌≤◌, max, true, false, ltb, List, [], ◌∷◌, length, refl, ap, ◌∙◌, not-suc-le-zero, arith}
 use native.Mathlib.Numerals.{unary_clauses}
 use Rattle.std.specs.Option.{option_copied}
 use Rattle.std.specs.List.Sorted.{IsNonDecreasingBy, IsPartitionPoint}
-use Rattle.std.proofs.lemmas.Bool.{le-leb, lt-leb, ltb-true, ltb-false, cond-true, cond-false}
+use Rattle.std.proofs.lemmas.Bool.{le-leb, lt-leb, ltb-true, ltb-false}
 use Rattle.std.proofs.lemmas.Bool.Decides.{nat_tests}
 use Rattle.std.proofs.lemmas.Option.{none-some, same_Some, slice_get-get_or}
 use Rattle.std.proofs.lemmas.List.Sorted.{IsNonDecreasingBy-short, IsNonDecreasingBy-from_default}
@@ -63,10 +63,9 @@ reach_by_last (low ∷ rows) (Some row) e = ap (λ (top : Row). top.height + 1) 
 
 on_line : (low : Row) (rows : List Row) (i h : ℕ) → i < length rows → h ≤ (row_at rows i).height → ((k : ℕ) → k < i → (row_at rows k).height < h) → volume_above low rows h ≡ line (row_at (low ∷ rows) i) (row_at rows i) h
 on_line low [] i h inside enough first = absurd (not-suc-le-zero inside)
-on_line low (next ∷ rows) zero h inside enough first = cond-true (leb h next.height) _ _ (le-leb h next.height enough)
+on_line low (next ∷ rows) zero h inside enough first = rw (le-leb h next.height enough) refl
 on_line low (next ∷ rows) (suc i) h inside enough first =
-    cond-false (leb h next.height) _ _ (lt-leb h next.height (first zero (omega arith)))
-    ∙ on_line next rows i h (omega arith) enough (λ k l. first (suc k) (omega arith))
+    rw (lt-leb h next.height (first zero (omega arith))) (on_line next rows i h (omega arith) enough (λ k l. first (suc k) (omega arith)))
 
 -- the place parts the rows that are below h from those that are not
 abbrev pub Parted : List Row → ℕ → ℕ → Type 0

@@ -1,5 +1,5 @@
 -- The laws of answers, for every kind of table.
-use Rattle.std.proofs.Common.{◌≡◌, ℕ, ◌*◌, ◌<◌, ◌≤◌, ℤ, pos, negsuc, nat_abs, ◌≤ℤ◌, Ok, sym, refl, ap, ◌∙◌, subst, subst₂, arith}
+use Rattle.std.proofs.Common.{◌≡◌, ℕ, ◌*◌, ◌<◌, ◌≤◌, ℤ, pos, nat_abs, ◌≤ℤ◌, Ok, sym, ap, ◌∙◌, subst, subst₂, arith}
 use borrow.Author.Differences.{ints}
 use Rattle.std.proofs.lemmas.Bool.Decides.{nat_tests}
 use Rattle.measure.specs.Fractions.{Fraction, natural, none, whole, one_half, ten, ◌⊗◌, ◌⊑◌, Within}
@@ -14,8 +14,7 @@ pub told : {T : Type 0} (m : TableMeaning T) (t : T) (h n : ℕ) → answered m 
 told m t h n e = grind (arith, nat_tests, e)
 
 size_back : (z : ℤ) → pos 0 ≤ℤ z → pos (nat_abs z) ≡ z
-size_back (pos n) h = refl
-size_back (negsuc n) h = absurd (omega (arith, ints))
+size_back z h = omega (arith, ints)
 
 -- a volume that is not negative is rounded to its tenths
 tenths_whole : (v : Fraction) → none ⊑ v → pos (tenths_of v) ≡ rounded_fraction (ten ⊗ v)

@@ -1,6 +1,7 @@
 -- Examination finds the first wrong thing, and where it finds nothing the rows are right throughout.
-use Rattle.std.proofs.Common.{◌≡◌, ℕ, zero, suc, ◌+◌, ◌<◌, ◌≤◌, true, false, not, ◌||◌, eqb, ltb, leb, List, [], ◌∷◌, length, drop, Some, None, Option, sym, refl, ap, ◌∙◌, subst, ⊎_elim, add-one, arith, length-drop, below_none, below_more}
-use Rattle.std.proofs.lemmas.Bool.{or_cases, or_parts, not-true, not-false, leb-true, leb-false, ltb-true, ltb-false, eqb-true, eqb-false, cond_both}
+use Rattle.std.proofs.Common.{◌≡◌, ℕ, zero, suc, ◌+◌, ◌<◌, ◌≤◌, true, false, not, ◌||◌, eqb, ltb, leb, List, [], ◌∷◌, length, drop, Some, None, Option, sym, refl, ap, ◌∙◌, subst, add-one, arith, length-drop, below_none, below_more}
+use Rattle.std.proofs.lemmas.Bool.Decides.{nat_tests}
+use Rattle.std.proofs.lemmas.Bool.{cond_both}
 use Rattle.measure.specs.declared.refusal.Refusal.{Refusal}
 use Rattle.measure.specs.Limits.{highest_level, largest_litres}
 use Rattle.capacity.specs.declared.row.Row.{Row}
@@ -21,8 +22,8 @@ record Stands (rows : List Row) (j : ℕ) (row : Row) (more : List Row) : Type 0
   next : drop (j + 1) rows ≡ more
 
 stands : (rows : List Row) (j : ℕ) (row : Row) (more : List Row) → drop j rows ≡ row ∷ more → Stands rows j row more
-stands [] zero row more e = let z : ◌≡◌ {A = ℕ} 0 1 = cc in absurd (omega arith)
-stands [] (suc j) row more e = let z : ◌≡◌ {A = ℕ} 0 1 = cc in absurd (omega arith)
+stands [] zero row more e = absurd (cc)
+stands [] (suc j) row more e = absurd (cc)
 stands (r ∷ rs) zero row more e = record { inside = omega arith; is = cc; next = cc }
 stands (r ∷ rs) (suc j) row more e =
     let s = stands rs j row more e in
@@ -46,12 +47,9 @@ module _ (rows : List Row) (counted : CountRight rows) (bottom : FirstRight rows
       (λ wrong. height counted bottom j s.inside before (λ right.
       let above_last = right.above k above in
       let within = right.within in
-      ⊎_elim (λ t. let f = leb-true row.height last.height t in omega arith) (λ t. let f = ltb-true highest_level row.height t in omega arith)
-      (or_cases (leb row.height last.height) (ltb highest_level row.height) wrong)))
+      grind (arith, nat_tests)))
       (λ fine.
-      let parts = or_parts (leb row.height last.height) (ltb highest_level row.height) fine in
-      let rises = leb-false row.height last.height parts.0 in
-      let within = ltb-false highest_level row.height parts.1 in
+      let parts : (last.height < row.height) × (row.height ≤ highest_level) = grind (arith, nat_tests) in
       let right : HeightRight rows j = record {
         within = omega arith;
         above = λ n p. subst (λ (m : ℕ). (row_at rows m).height < (row_at rows j).height) {x = k} {y = n} (omega arith) (omega arith);
@@ -60,12 +58,9 @@ module _ (rows : List Row) (counted : CountRight rows) (bottom : FirstRight rows
       (λ wrong. litres counted bottom j s.inside before right (λ holds.
       let no_less = holds.no_less k above in
       let limit = holds.within in
-      ⊎_elim (λ t. let f = ltb-true row.litres last.litres t in omega arith) (λ t. let f = ltb-true largest_litres row.litres t in omega arith)
-      (or_cases (ltb row.litres last.litres) (ltb largest_litres row.litres) wrong)))
+      grind (arith, nat_tests)))
       (λ enough.
-      let amounts = or_parts (ltb row.litres last.litres) (ltb largest_litres row.litres) enough in
-      let no_less = ltb-false row.litres last.litres amounts.0 in
-      let limit = ltb-false largest_litres row.litres amounts.1 in
+      let amounts : (last.litres ≤ row.litres) × (row.litres ≤ largest_litres) = grind (arith, nat_tests) in
       let holds : LitresRight rows j = record {
         within = omega arith;
         no_less = λ n p. subst (λ (m : ℕ). (row_at rows m).litres ≤ (row_at rows j).litres) {x = k} {y = n} (omega arith) (omega arith);
@@ -74,16 +69,12 @@ module _ (rows : List Row) (counted : CountRight rows) (bottom : FirstRight rows
 
 -- ---- a whole draft
 
--- a count that passes its test is right
+-- a count that passes its test is right, and one that fails it is wrong
 counts : (rows : List Row) → ◌||◌ (ltb (length rows) fewest_rows) (ltb most_rows (length rows)) ≡ false → CountRight rows
-counts rows t =
-    let parts = or_parts (ltb (length rows) fewest_rows) (ltb most_rows (length rows)) t in
-    (ltb-false (length rows) fewest_rows parts.0, ltb-false most_rows (length rows) parts.1)
+counts rows t = grind (arith, nat_tests)
 
 miscounts : (rows : List Row) → ◌||◌ (ltb (length rows) fewest_rows) (ltb most_rows (length rows)) ≡ true → CountRight rows → ⊥
-miscounts rows t right =
-    ⊎_elim (λ few. let f = ltb-true (length rows) fewest_rows few in omega arith) (λ many. let f = ltb-true most_rows (length rows) many in omega arith)
-    (or_cases (ltb (length rows) fewest_rows) (ltb most_rows (length rows)) t)
+miscounts rows t right = grind (arith, nat_tests)
 
 abbrev Verdict : List Row → Option Refusal → Type 0
 Verdict rows None = CountRight rows × FirstRight rows × RightBefore rows (length rows)
@@ -97,17 +88,16 @@ from_first : (rows : List Row) → CountRight rows → Verdict rows (examined_ro
 from_first [] c = let few = c.0 in absurd (omega arith)
 from_first (row ∷ rows) c =
     cond_both (not (eqb row.height 0)) _ _ (Verdict (row ∷ rows))
-    (λ wrong. first c (λ right. eqb-false row.height 0 (not-true (eqb row.height 0) wrong) right))
+    (λ wrong. first c (λ right. grind (arith, nat_tests)))
     (λ fine.
-    let bottom : FirstRight (row ∷ rows) = eqb-true row.height 0 (not-false (eqb row.height 0) fine) in
+    let bottom : FirstRight (row ∷ rows) = grind (arith, nat_tests) in
     let level : HeightRight (row ∷ rows) 0 = record { within = omega arith; above = λ k p. absurd (omega arith) } in
     cond_both (ltb largest_litres row.litres) _ _ (Verdict (row ∷ rows))
     (λ wrong. litres c bottom 0 (omega arith) (below_none (λ n. HeightRight (row ∷ rows) n × LitresRight (row ∷ rows) n)) level (λ right.
-    let f = ltb-true largest_litres row.litres wrong in
     let within = right.within in
-    omega arith))
+    grind (arith, nat_tests)))
     (λ enough.
-    let within = ltb-false largest_litres row.litres enough in
+    let within : row.litres ≤ largest_litres = grind (arith, nat_tests) in
     let holds : LitresRight (row ∷ rows) 0 = record { within = omega arith; no_less = λ k p. absurd (omega arith) } in
     let before = below_more (λ n. HeightRight (row ∷ rows) n × LitresRight (row ∷ rows) n) 0 (below_none (λ n. HeightRight (row ∷ rows) n × LitresRight (row ∷ rows) n)) (level, holds) in
     judged (row ∷ rows) (examined_above 1 row rows) c bottom (walk (row ∷ rows) c bottom rows 1 0 row refl refl refl before)))

@@ -1,6 +1,6 @@
 -- Between two neighbouring rows the volume is that of the straight line through them.
 use Rattle.std.proofs.Common.{◌≡◌, ℕ, zero, suc, ◌+◌, ◌-◌, ◌*◌, ◌<◌, ◌≤◌, true, leb, List, [], ◌∷◌, length, sym, ap, ◌∙◌, subst, not-suc-le-zero, add-one, arith}
-use Rattle.std.proofs.lemmas.Bool.{le-leb, leb-true, cond-true, cond_both}
+use Rattle.std.proofs.lemmas.Bool.{le-leb, leb-true, cond_both}
 use Rattle.measure.specs.Fractions.{Fraction, natural, over, ◌⊕◌, ◌≃◌}
 use Rattle.measure.specs.FractionLaws.{≃_refl, ≃_sym, ≃_trans}
 use Rattle.capacity.specs.declared.row.Row.{Row}
@@ -36,7 +36,7 @@ line_bottom low high h r e =
 straight : (j : ℕ) (low : Row) (rows : List Row) (i h : ℕ) → Clear j low rows → i < length rows → (row_at (low ∷ rows) i).height ≤ h → h ≤ (row_at rows i).height → volume_above low rows h ≃ line (row_at (low ∷ rows) i) (row_at rows i) h
 straight j low [] i h clear inside from to = absurd (not-suc-le-zero inside)
 straight j low (next ∷ rows) zero h clear inside from to =
-    subst (λ (v : Fraction). v ≃ line low next h) (sym (cond-true (leb h next.height) (line low next h) (volume_above next rows h) (le-leb h next.height to))) (≃_refl (line low next h))
+    rw (le-leb h next.height to) (≃_refl (line low next h))
 straight j low (next ∷ rows) (suc i) h clear inside from to =
     let rest = next_rises j low next rows clear in
     cond_both (leb h next.height) (line low next h) (volume_above next rows h) (λ v. v ≃ line (row_at (next ∷ rows) i) (row_at rows i) h)
