@@ -1,8 +1,7 @@
 -- The laws of the average.
 use Rattle.std.proofs.Common.{◌≡◌, ℕ, ◌+◌, ◌-◌, ◌*◌, ◌<◌, true, cond, List, [], ◌∷◌, ℤ, pos, ◌+ℤ◌, ◌*ℤ◌, ◌≤ℤ◌, sym, subst, arith}
 use lib.Signed.{le_z}
-use borrow.Author.Differences.{ints, le_out, at_most_in, sum_is_lem, product_is}
-use Rattle.std.proofs.lemmas.Bool.{cond_both}
+use borrow.Author.Differences.{ints}
 use Rattle.measure.specs.Rounding.{rounded}
 use Rattle.working.specs.declared.element.CountingElement.{CountingElement}
 use Rattle.working.specs.Averages.{weights_from, weights, total, weighted, average, liquid_right}
@@ -17,7 +16,7 @@ total_from from e [] level laid = omega arith
 total_from from e (next ∷ es) level laid = omega (arith, total_from (e.height + next.height) next es level laid.3)
 
 pub weights_total : (es : List CountingElement) (water level : ℕ) → liquid_right es water level ≡ true → total (weights es water level) ≡ 2 * (level - water)
-weights_total [] water level h = let p = (liquid_parts [] water level h).some in let z : ◌≡◌ {A = ℕ} 0 1 = cc in absurd (omega arith)
+weights_total [] water level h = grind (arith, h)
 weights_total (e ∷ es) water level h = let p = liquid_parts (e ∷ es) water level h in omega (arith, total_from (2 * water) e es level p.laid)
 
 pub total_some : (es : List CountingElement) (water level : ℕ) → liquid_right es water level ≡ true → 0 < total (weights es water level)
@@ -26,33 +25,17 @@ total_some es water level h = let p = (liquid_parts es water level h).water_belo
 -- ---- between the coldest and the warmest
 
 lesser : (a b : ℤ) → (cond (le_z a b) a b ≤ℤ a) × (cond (le_z a b) a b ≤ℤ b)
-lesser a b = cond_both (le_z a b) a b (λ (x : ℤ). (x ≤ℤ a) × (x ≤ℤ b)) (λ e. (omega (arith, ints), omega (arith, ints))) (λ e. (omega (arith, ints), omega (arith, ints)))
+lesser a b = (grind (arith, ints), grind (arith, ints))
 
 greater : (a b : ℤ) → (a ≤ℤ cond (le_z b a) a b) × (b ≤ℤ cond (le_z b a) a b)
-greater a b = cond_both (le_z b a) a b (λ (x : ℤ). (a ≤ℤ x) × (b ≤ℤ x)) (λ e. (omega (arith, ints), omega (arith, ints))) (λ e. (omega (arith, ints), omega (arith, ints)))
+greater a b = (grind (arith, ints), grind (arith, ints))
 
 -- a share n of one and t of the rest, each at least c, is at least n + t of c
 share_least : (n t : ℕ) (c a b w : ℤ) → c ≤ℤ a → c ≤ℤ b → (pos t *ℤ b) ≤ℤ w → (pos (n + t) *ℤ c) ≤ℤ ((pos n *ℤ a) +ℤ w)
-share_least n t c a b w ca cb bw =
-    let p = le_out (pos n *ℤ c) (pos n *ℤ a) (multiple_keeps n c a ca) in
-    let q = le_out (pos t *ℤ c) (pos t *ℤ b) (multiple_keeps t c b cb) in
-    let r = le_out (pos t *ℤ b) w bw in
-    let x = product_is (pos (n + t)) c in
-    let y = product_is (pos n) c in
-    let z = product_is (pos t) c in
-    let s = sum_is_lem (pos n *ℤ a) w in
-    at_most_in (pos (n + t) *ℤ c) ((pos n *ℤ a) +ℤ w) (omega arith)
+share_least n t c a b w ca cb bw = omega (arith, ints, multiple_keeps n c a ca, multiple_keeps t c b cb)
 
 share_most : (n t : ℕ) (c a b w : ℤ) → a ≤ℤ c → b ≤ℤ c → w ≤ℤ (pos t *ℤ b) → ((pos n *ℤ a) +ℤ w) ≤ℤ (pos (n + t) *ℤ c)
-share_most n t c a b w ca cb bw =
-    let p = le_out (pos n *ℤ a) (pos n *ℤ c) (multiple_keeps n a c ca) in
-    let q = le_out (pos t *ℤ b) (pos t *ℤ c) (multiple_keeps t b c cb) in
-    let r = le_out w (pos t *ℤ b) bw in
-    let x = product_is (pos (n + t)) c in
-    let y = product_is (pos n) c in
-    let z = product_is (pos t) c in
-    let s = sum_is_lem (pos n *ℤ a) w in
-    at_most_in ((pos n *ℤ a) +ℤ w) (pos (n + t) *ℤ c) (omega arith)
+share_most n t c a b w ca cb bw = omega (arith, ints, multiple_keeps n a c ca, multiple_keeps t b c cb)
 
 sum_least : (from : ℕ) (es : List CountingElement) (level : ℕ) → (pos (total (weights_from from es level)) *ℤ coldest es) ≤ℤ sum_above from es level
 sum_least from [] level = omega (arith, ints)

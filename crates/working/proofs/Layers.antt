@@ -1,14 +1,14 @@
 -- The layers of liquid that the elements stand for, one on the other from the water to the level.
-use Rattle.std.proofs.Common.{◌≡◌, ℕ, ◌+◌, ◌-◌, ◌*◌, ◌<◌, ◌≤◌, true, List, [], ◌∷◌, length, get_or, drop, ℤ, pos, ◌+ℤ◌, ◌*ℤ◌, sym, ap, ◌∙◌, subst, arith}
-use lib.Signed.{le_z}
+use Rattle.std.proofs.Common.{◌≡◌, ℕ, ◌+◌, ◌-◌, ◌*◌, ◌<◌, ◌≤◌, true, List, [], ◌∷◌, length, get_or, drop, ℤ, pos, ◌+ℤ◌, ◌*ℤ◌, sym, ap, ◌∙◌, subst, ⊎_elim, arith}
 use borrow.Author.Differences.{ints}
+use Rattle.std.proofs.Math.Nat.{eq-or-lt_of_le}
 use Rattle.std.proofs.lemmas.List.{drop_more, drop_all}
-use Rattle.std.proofs.lemmas.Bool.{and_parts, leb-true, ltb-true}
+use Rattle.std.proofs.lemmas.Bool.Decides.{nat_tests}
 use Rattle.measure.specs.Limits.{highest_level}
 use Rattle.working.specs.declared.element.CountingElement.{CountingElement}
-use Rattle.working.specs.Limits.{coldest_good, warmest_good, good_temperature}
+use Rattle.working.specs.Limits.{good_temperature, Between}
 use Rattle.working.specs.Averages.{weights_from, weighted, rising_from, some_element, liquid_right}
-use Rattle.working.proofs.Ranges.{Between, wider, sum_between, product_between}
+use Rattle.working.proofs.Ranges.{wider, sum_between, product_between}
 
 -- what stands where the elements have ended
 abbrev pub nothing : CountingElement
@@ -19,9 +19,7 @@ abbrev pub Good : ℤ → Type 0
 Good t = Between 4000 15000 t
 
 good : (t : ℤ) → good_temperature t ≡ true → Good t
-good t h =
-    let p : (le_z coldest_good t ≡ true) × (le_z t warmest_good ≡ true) = and_parts _ _ h in
-    record { least = omega (arith, ints); most = omega (arith, ints) }
+good t h = record { least = grind (arith, ints, h); most = grind (arith, ints, h) }
 
 -- no layer ends below where it begins, and the last ends at the level: heights are doubled
 abbrev pub Laid : ℕ → List CountingElement → ℕ → Type 0
@@ -38,10 +36,8 @@ record First (low : ℕ) (e : CountingElement) (es : List CountingElement) (leve
 
 first : (low : ℕ) (e : CountingElement) (es : List CountingElement) (level : ℕ) → rising_from low (e ∷ es) level ≡ true → First low e es level
 first low e es level h =
-    let p = and_parts _ _ h in
-    let q = and_parts _ _ p.0 in
-    let r = and_parts _ _ q.0 in
-    record { above = leb-true _ _ r.0; below = leb-true _ _ r.1; good = good e.hundredths q.1; rest = p.1 }
+    let warm : good_temperature e.hundredths ≡ true = grind (arith, nat_tests, h) in
+    record { above = grind (arith, nat_tests, h); below = grind (arith, nat_tests, h); good = good e.hundredths warm; rest = grind (arith, nat_tests, h) }
 
 laid_from : (low from : ℕ) (e : CountingElement) (es : List CountingElement) (level : ℕ) → rising_from low (e ∷ es) level ≡ true → from ≤ 2 * e.height → Laid from (e ∷ es) level
 laid_from low from e [] level h le = let f = first low e [] level h in (omega arith, f.good)
@@ -64,10 +60,8 @@ laid_on_water (e ∷ es) water level h = let f = first water e es level h in lai
 
 pub liquid_parts : (es : List CountingElement) (water level : ℕ) → liquid_right es water level ≡ true → LiquidParts es water level
 liquid_parts es water level h =
-    let p = and_parts _ _ h in
-    let q = and_parts _ _ p.0 in
-    let r = and_parts _ _ q.0 in
-    record { some = r.0; water_below = ltb-true _ _ r.1; level_most = leb-true _ _ q.1; laid = laid_on_water es water level p.1 }
+    let rising : rising_from water es level ≡ true = grind (arith, nat_tests, h) in
+    record { some = grind (arith, nat_tests, h); water_below = grind (arith, nat_tests, h); level_most = grind (arith, nat_tests, h); laid = laid_on_water es water level rising }
 
 -- ---- one layer, by places
 
@@ -82,7 +76,7 @@ pub record Layer (es : List CountingElement) (i from to level : ℕ) : Type 0 wh
   pub adds : sum_above from (drop i es) level ≡ (pos (to - from) *ℤ (get_or es i nothing).hundredths) +ℤ sum_above to (drop (i + 1) es) level
 
 module _ (es : List CountingElement) (i from level : ℕ) (laid : Laid from (drop i es) level) where
-  pub layer_between : i + 1 < length es → Layer es i from ((get_or es i nothing).height + (get_or es (i + 1) nothing).height) level
+  layer_between : i + 1 < length es → Layer es i from ((get_or es i nothing).height + (get_or es (i + 1) nothing).height) level
   layer_between inside =
       let here = drop_more es i nothing (omega arith) in
       let after = drop_more es (i + 1) nothing inside in
@@ -96,7 +90,7 @@ module _ (es : List CountingElement) (i from level : ℕ) (laid : Laid from (dro
         adds = ap (λ (rest : List CountingElement). sum_above from rest level) whole ∙ ap (λ (rest : List CountingElement). (pos ((get_or es i nothing).height + (get_or es (i + 1) nothing).height - from) *ℤ (get_or es i nothing).hundredths) +ℤ sum_above ((get_or es i nothing).height + (get_or es (i + 1) nothing).height) rest level) (sym after);
       }
 
-  pub layer_last : i < length es → length es ≤ i + 1 → Layer es i from (2 * level) level
+  layer_last : i < length es → length es ≤ i + 1 → Layer es i from (2 * level) level
   layer_last inside last =
       let none = drop_all (i + 1) es last in
       let whole = drop_more es i nothing inside ∙ ap (λ (rest : List CountingElement). get_or es i nothing ∷ rest) none in
@@ -108,6 +102,14 @@ module _ (es : List CountingElement) (i from level : ℕ) (laid : Laid from (dro
         laid = subst (λ (rest : List CountingElement). Laid (2 * level) rest level) (sym none) tt;
         adds = ap (λ (rest : List CountingElement). sum_above from rest level) whole ∙ ap (λ (rest : List CountingElement). (pos (2 * level - from) *ℤ (get_or es i nothing).hundredths) +ℤ sum_above (2 * level) rest level) (sym none);
       }
+
+  -- up to midway to the element above, or to the level
+  pub layer_at : (to : ℕ) → i < length es → (i + 1 < length es → to ≡ (get_or es i nothing).height + (get_or es (i + 1) nothing).height) → (length es ≤ i + 1 → to ≡ 2 * level) → Layer es i from to level
+  layer_at to inside midway top =
+      let here : i + 1 ≤ length es = omega (arith, inside) in
+      ⊎_elim
+      (λ last. let enough : length es ≤ i + 1 = omega (arith, last) in subst (λ (x : ℕ). Layer es i from x level) (sym (top enough)) (layer_last inside enough))
+      (λ above. subst (λ (x : ℕ). Layer es i from x level) (sym (midway above)) (layer_between above)) (eq-or-lt_of_le here)
 
 -- ---- the sum so far
 

@@ -1,9 +1,10 @@
 -- Ranges of whole numbers, and what each operation and the rounding make of them.
-use Rattle.std.proofs.Common.{◌≡◌, ℕ, zero, suc, ◌+◌, ◌*◌, ◌<◌, ◌≤◌, ℤ, pos, negsuc, ◌+ℤ◌, ◌*ℤ◌, neg_ℤ, nat_abs, ◌≤ℤ◌, sym, refl, ap, ◌∙◌, subst, mul-le-mul_right, mul-le-mul, mul-le-mul_left, arith}
+use Rattle.std.proofs.Common.{◌≡◌, ℕ, zero, suc, ◌+◌, ◌*◌, ◌^◌, ◌<◌, ◌≤◌, ℤ, pos, negsuc, ◌+ℤ◌, ◌*ℤ◌, neg_ℤ, nat_abs, ◌≤ℤ◌, sym, refl, ap, ◌∙◌, subst, mul-le-mul_right, mul-le-mul, mul-le-mul_left, arith, w64, SFits}
 use lib.IntN.{*ℤ_comm}
 use borrow.Author.Differences.{ints, up, down, le_out, at_most_in, product_is}
 use Rattle.measure.specs.Rounding.{rounded}
 use Rattle.measure.proofs.Rounds.{rounding_laws}
+use Rattle.working.specs.Limits.{Between}
 
 -- ---- products keep the order
 
@@ -43,32 +44,26 @@ quotient_most n d hi r h le e = let most = rounded_most (pos n) (pos hi) d h (om
 
 -- ---- ranges
 
--- z lies from −lo to hi
-pub record Between (lo hi : ℕ) (z : ℤ) : Type 0 where
-  pub least : neg_ℤ (pos lo) ≤ℤ z
-  pub most : z ≤ℤ pos hi
-
 pub size_most : (k lo hi : ℕ) (z : ℤ) → Between lo hi z → lo ≤ k → hi ≤ k → nat_abs z ≤ k
-size_most k lo hi z b p q = let l = b.least in let m = b.most in omega (arith, ints)
+size_most k lo hi z b p q = omega (arith, ints)
+
+pub fits : {lo hi : ℕ} {z : ℤ} → Between lo hi z → lo + hi < 2 ^ 63 → SFits w64 z
+fits b h = omega (arith, ints)
 
 pub wider : (lo hi low high : ℕ) (z : ℤ) → lo ≤ low → hi ≤ high → Between lo hi z → Between low high z
-wider lo hi low high z p q b = let l = b.least in let m = b.most in record { least = omega (arith, ints); most = omega (arith, ints) }
+wider lo hi low high z p q b = record { least = omega (arith, ints); most = omega (arith, ints) }
 
 pub sum_between : (lo hi low high : ℕ) (a b : ℤ) → Between lo hi a → Between low high b → Between (lo + low) (hi + high) (a +ℤ b)
 sum_between lo hi low high a b p q =
-    let l = p.least in
-    let m = p.most in
-    let s = q.least in
-    let t = q.most in
     record { least = omega (arith, ints); most = omega (arith, ints) }
 
 pub product_between : (n m lo hi : ℕ) (z : ℤ) → n ≤ m → Between lo hi z → Between (m * lo) (m * hi) (pos n *ℤ z)
 product_between n m lo hi (pos k) h b =
-    let top : k ≤ hi = let t = b.most in omega (arith, ints) in
+    let top : k ≤ hi = omega (arith, ints) in
     let most = mul-le-mul h top in
     record { least = omega (arith, ints); most = omega (arith, ints) }
 product_between n m lo hi (negsuc k) h b =
-    let bottom : suc k ≤ lo = let t = b.least in omega (arith, ints) in
+    let bottom : suc k ≤ lo = omega (arith, ints) in
     let most = mul-le-mul h bottom in
     record { least = omega (arith, ints); most = omega (arith, ints) }
 

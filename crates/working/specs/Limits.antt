@@ -1,5 +1,5 @@
 -- The limits of what a reading is worked out from, and of its figures.
-use Rattle.std.specs.Prelude.{ℕ, Bool, ◌&&◌, ℤ, pos, negsuc, int_le}
+use Rattle.std.specs.Prelude.{ℕ, Bool, ◌&&◌, ℤ, pos, negsuc, neg_ℤ, ◌≤ℤ◌, int_le}
 
 -- a good element's temperature, in hundredths of a °C: −4,000 to 15,000
 abbrev pub coldest_good : ℤ
@@ -27,7 +27,38 @@ most_tenths = 2000000000
 abbrev pub most_coefficient : ℕ
 most_coefficient = 2000000000
 
--- the standard volume in tenths of a litre, and the mass in kilograms
+-- ---- the steps of the working
+
+-- from −below to above
+pub record Between (below above : ℕ) (z : ℤ) : Type 0 where
+  pub least : neg_ℤ (pos below) ≤ℤ z
+  pub most : z ≤ℤ pos above
+
+-- how far an average is from 15 °C, in ten-millionths of a °C
+abbrev pub OffsetWithin : ℤ → Type 0
+OffsetWithin d = Between 550000000 1350000000 d
+
+-- the product's expansion and the exponent, in units of 10^-9
+abbrev pub ExpansionWithin : ℤ → Type 0
+ExpansionWithin u = Between 110000000 270000000 u
+
+abbrev pub ExponentWithin : ℤ → Type 0
+ExponentWithin v = Between 110000000 330000000 v
+
+-- the wall factor and the correction, in units of 10^-9
+abbrev pub most_wall_factor : ℕ
+most_wall_factor = 1009000000
+
+abbrev pub least_correction : ℕ
+least_correction = 500000000
+
+abbrev pub most_correction : ℕ
+most_correction = 1200000000
+
+-- the gross and the standard volume in tenths of a litre, and the mass in kilograms
+abbrev pub most_gross : ℕ
+most_gross = 2018000000
+
 abbrev pub most_standard : ℕ
 most_standard = 2500000000
 

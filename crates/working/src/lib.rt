@@ -3,12 +3,12 @@
 
 mod correction;
 pub mod element;
-mod exact_product;
 pub mod figures;
 pub mod liquid;
 mod mass;
 pub mod method;
 pub mod observation;
 pub mod temperature;
+mod unit;
 mod volume;
 mod wall;

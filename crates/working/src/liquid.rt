@@ -7,7 +7,7 @@ use super::element::CountingElement;
 pub mod average;
 
 /// With the probe elements that count in it, at least one, from the bottom up.
-#[derive(Clone, Copy)]
+#[derive(Clone, Copy, PartialEq, Eq, Debug)]
 pub struct Liquid<'a> {
     pub elements: &'a [CountingElement],
     pub water: u32,

@@ -4,7 +4,7 @@ ghost use Rattle.working.specs.Methods.{method_number, method_of};
 
 use measure::refusal::{Cause, Refusal};
 
-#[derive(Clone, Copy)]
+#[derive(Clone, Copy, PartialEq, Eq, Debug)]
 pub enum Method {
     /// Method 1: standard volume times density.
     Plain,
@@ -12,22 +12,26 @@ pub enum Method {
     InAir,
 }
 
-impl Method {
-    /// The method with this number; any other is refused.
-    pub fn of(number: u32) -> Result<Method, Refusal>
-        ensures { result ≡ method_of number }
-    {
+/// The method with this number; any other is refused.
+impl TryFrom<u32> for Method {
+    type Error = Refusal;
+
+    ghost try_from_gives = { λ number method. method ≡ method_of number };
+
+    fn try_from(number: u32) -> Result<Self, Refusal> {
         match number {
             1 => Ok(Method::Plain),
             2 => Ok(Method::InAir),
             _ => Err(Cause::MethodUnknown.at(i64::from(number))),
         }
     }
+}
 
-    pub fn number(self) -> u32
-        ensures { result ≡ method_number self }
-    {
-        match self {
+impl From<Method> for u32 {
+    ghost from_gives = { λ method number. number ≡ method_number method };
+
+    fn from(method: Method) -> u32 {
+        match method {
             Method::Plain => 1,
             Method::InAir => 2,
         }

@@ -8,7 +8,7 @@ use super::temperature::Temperature;
 pub mod working;
 
 /// Within the limits of tables, shell coefficients and product rules.
-#[derive(Clone, Copy)]
+#[derive(Clone, Copy, PartialEq, Eq, Debug)]
 pub struct Observation {
     /// What the table answers at the level and at the water, in tenths of a litre.
     pub at_level: u64,

@@ -23,7 +23,7 @@ impl<G: Gauge, T: CapacityTable, P: ProductRule> TankComputer<G, T, P> {
         ensures admitted { Admitted P.ProductRule.meaning self.now.rule self.now.density self.now.shell }
     {
         let water = self.water;
-        let method = Method::of(method)?;
+        let method = Method::try_from(method)?;
         let level = self.gauge.tell()?;
         let Some(density) = self.density else {
             return Err(Cause::DensityUnset.at(0));

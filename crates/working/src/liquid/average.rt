@@ -3,7 +3,6 @@ ghost use Rattle.std.specs.Prelude.{◌≡◌};
 ghost use Rattle.working.specs.Averages.{average};
 ghost use Rattle.working.specs.AverageLaws.{AverageLaws};
 
-use super::super::exact_product::product;
 use super::super::temperature::Temperature;
 use super::Liquid;
 use measure::rounding::rounded_signed_quotient;
@@ -14,17 +13,14 @@ impl<'a> Liquid<'a> {
     pub fn average(&self) -> Temperature
         ensures { result.ten_millionths ≡ average self.now.elements.now self.now.water self.now.level }
     {
-        let count = self.elements.len();
         let mut sum: i64 = 0;
         let mut from = 2 * self.water;
-        for i in 0..count {
-            let element = self.elements[i];
-            let to = if i + 1 < count {
-                element.height + self.elements[i + 1].height
-            } else {
-                2 * self.level
-            };
-            sum += product(i64::from(to - from), i64::from(element.hundredths));
+        for (i, element) in self.elements.iter().enumerate() {
+            let to = self
+                .elements
+                .get(i + 1)
+                .map_or(2 * self.level, |above| element.height + above.height);
+            sum += i64::from(to - from) * i64::from(element.hundredths);
             from = to;
         }
         let weights = u64::from(2 * (self.level - self.water));
@@ -35,8 +31,6 @@ impl<'a> Liquid<'a> {
 }
 
 /// The weights add up to twice the height of liquid, and the average lies between the coldest and the warmest element.
-pub fn averages_keep_their_laws() -> u8
+pub fn averages_keep_their_laws()
     ensures { AverageLaws }
-{
-    0
-}
+{}

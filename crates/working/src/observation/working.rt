@@ -4,7 +4,7 @@ ghost use Rattle.working.specs.Workings.{WorkedOut};
 use super::super::correction::{correction, expansion, exponent};
 use super::super::figures::Figures;
 use super::super::mass::mass;
-use super::super::volume::{gross_volume, standard_volume};
+use super::super::volume::scaled;
 use super::super::wall::wall_factor;
 use super::Observation;
 
@@ -14,10 +14,10 @@ impl Observation {
         ensures { WorkedOut self.now result }
     {
         let wall_factor = wall_factor(self.shell, self.wall.offset());
-        let gross = gross_volume(self.at_level - self.at_water, wall_factor);
+        let gross = scaled(self.at_level - self.at_water, wall_factor);
         let exponent = exponent(expansion(self.coefficient, self.product.offset()));
         let correction = correction(exponent);
-        let standard = standard_volume(gross, correction);
+        let standard = scaled(gross, correction);
         Figures {
             wall_factor,
             gross,

@@ -1,18 +1,25 @@
 //! How far a temperature is from the standard's 15 °C.
-ghost use Rattle.std.specs.Prelude.{◌≡◌, pos, negsuc, ◌≤ℤ◌};
+ghost use Rattle.std.specs.Prelude.{◌≡◌};
+ghost use Rattle.working.specs.Limits.{OffsetWithin};
 ghost use Rattle.working.specs.Workings.{offset_of};
 
 use super::Temperature;
 
 const FIFTEEN_DEGREES: i64 = 150_000_000;
 
+/// From -55 °C to 135 °C, in ten-millionths of a °C.
+#[derive(Clone, Copy, PartialEq, Eq, Debug)]
+pub struct Offset {
+    pub ten_millionths: i64,
+    ghost within: { OffsetWithin ten_millionths },
+}
+
 impl Temperature {
-    /// In ten-millionths of a °C.
-    pub fn offset(self) -> i64
-        ensures value { result ≡ offset_of self }
-        ensures least { negsuc 549999999 ≤ℤ result }
-        ensures most { result ≤ℤ pos 1350000000 }
+    pub fn offset(self) -> Offset
+        ensures { result.ten_millionths ≡ offset_of self }
     {
-        self.ten_millionths - FIFTEEN_DEGREES
+        Offset {
+            ten_millionths: self.ten_millionths - FIFTEEN_DEGREES,
+        }
     }
 }
