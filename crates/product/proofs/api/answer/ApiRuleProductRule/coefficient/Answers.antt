@@ -5,7 +5,9 @@ use Rattle.product.proofs.api.answer.ApiRuleProductRule.coefficient.Goals as goa
 use Rattle.product.proofs.api.answer.ApiRuleProductRule.coefficient.Goals.{After-from-r}
 
 found : (c : goal.After-from-r) → line_for c.args.self.now c.args.density ≡ Some c.in_ok-line.line
-found c = let found : c.line_for.result ≡ Some c.in_ok-line.line = search rules in sym c.line_for.ensures ∙ found
+found c =
+    let taken : c.line_for.result ≡ Some c.in_ok-line.line = search rules in
+    sym c.line_for.ensures ∙ taken
 
 pub numerator-requires : goal.numerator-requires
 numerator-requires c =
