@@ -1,6 +1,7 @@
 -- The elements that count stand in the liquid as its average asks.
 use Rattle.std.proofs.Common.{◌≡◌, ℕ, ◌+◌, ◌≤◌, max, true, ◌&&◌, leb, List, [], ◌∷◌, Some, None, refl, arith}
-use Rattle.std.proofs.lemmas.Bool.{and_parts, and_from, leb-true, le-leb, cond_both}
+use Rattle.std.proofs.lemmas.Bool.Decides.{nat_tests}
+use Rattle.std.proofs.lemmas.Bool.{and_parts, leb-true, cond_both}
 use Rattle.working.specs.declared.element.CountingElement.{CountingElement}
 use Rattle.working.specs.Limits.{good_temperature}
 use Rattle.working.specs.Averages.{rising_from}
@@ -12,10 +13,7 @@ use Rattle.probe.specs.Counted.{counting, counted_before}
 use Rattle.probe.proofs.Fitted.{right_parts}
 
 rising_made : (from level : ℕ) (e : CountingElement) (es : List CountingElement) → from ≤ e.height → e.height ≤ level → good_temperature e.hundredths ≡ true → rising_from (e.height + 1) es level ≡ true → rising_from from (e ∷ es) level ≡ true
-rising_made from level e es p q r s =
-    and_from (leb from e.height && leb e.height level && good_temperature e.hundredths) (rising_from (e.height + 1) es level)
-    (and_from (leb from e.height && leb e.height level) (good_temperature e.hundredths)
-    (and_from (leb from e.height) (leb e.height level) (le-leb from e.height p) (le-leb e.height level q)) r) s
+rising_made from level e es p q r s = grind (arith, nat_tests)
 
 -- the element at `height` and those above it, which rise from any height up to the next one or the water
 by_state : (from low height water level : ℕ) (state : ElementState) (es : List ProbeElement) → from ≤ max low water → low ≤ height → state_right state ≡ true → ((next : ℕ) → next ≤ max (height + 1) water → rising_from next (counting water level es) level ≡ true) → rising_from from (counting water level (record { height = height; state = state } ∷ es)) level ≡ true

@@ -1,5 +1,5 @@
 -- The word of counting elements: its bits and its ones.
-use Rattle.std.proofs.Common.{◌≡◌, ℕ, zero, suc, ◌+◌, ◌*◌, ◌/◌, ◌%◌, ◌^◌, ◌<◌, List, [], ◌∷◌, length, get_or, Some, None, Option, sym, refl, ap, ◌∙◌, not-suc-le-zero, mul_assoc, mul_comm, pow-suc, mul-add, div-one, add-one, arith}
+use Rattle.std.proofs.Common.{◌≡◌, ℕ, zero, suc, ◌+◌, ◌*◌, ◌/◌, ◌%◌, ◌^◌, ◌<◌, List, [], ◌∷◌, length, get_or, Some, None, Option, sym, refl, ap, ◌∙◌, not-suc-le-zero, mul_comm, pow-suc, div-one, add-one, arith}
 use native.Mathlib.Nat.{div-div-eq-div-mul}
 use lib.Bits.{bit_or, or_shifted_r}
 use lib.Count.{ones, ones_step}
@@ -13,14 +13,14 @@ use Rattle.probe.specs.CountingLaws.{CountingLaws}
 -- ---- setting a bit above the others
 
 pub set_bit : (w i : ℕ) → w < 2 ^ i → i < 16 → bit_or w ((1 * 2 ^ i) % 2 ^ 16) ≡ 2 ^ i + w
-set_bit w i h l = ap (bit_or w) (one_shl i 16 l ∙ (omega arith)) ∙ or_shifted_r 1 i w h ∙ (omega arith)
+set_bit w i h l = grind (arith, one_shl i 16 l, or_shifted_r 1 i w h)
 
 twice : (i : ℕ) → 2 ^ (i + 1) ≡ 2 ^ i * 2
 twice i = ap (λ k. 2 ^ k) (add-one i) ∙ pow-suc 2 i
 
 -- the bit at place i, and what is left above it
 pub bit_more : (w i b r t : ℕ) → w + 2 ^ i * (b + 2 * r) ≡ t → (2 ^ i * b + w) + 2 ^ (i + 1) * r ≡ t
-bit_more w i b r t e = rw twice (omega (arith, sym (mul_assoc (2 ^ i) 2 r), mul-add (2 ^ i) b (2 * r), e))
+bit_more w i b r t e = rw twice (omega (arith, e))
 
 pub word_below : (w i : ℕ) → w < 2 ^ i → 2 ^ i + w < 2 ^ (i + 1)
 word_below w i h = rw twice (omega arith)

@@ -1,12 +1,12 @@
 -- The elements that count from the water up to the level, and the word that names them.
-use Rattle.std.specs.Prelude.{ℕ, ◌+◌, ◌*◌, List, [], ◌∷◌, take, Some, None, Option}
+use Rattle.std.specs.Prelude.{ℕ, ◌+◌, ◌*◌, List, [], ◌∷◌, Some, None, Option}
 use Rattle.working.specs.declared.element.CountingElement.{CountingElement}
 use Rattle.probe.specs.declared.element.ProbeElement.{ProbeElement}
 use Rattle.probe.specs.declared.counting.Counting.{Counting}
 use Rattle.probe.specs.Elements.{counted}
 
 abbrev pub chosen : Counting → List CountingElement
-chosen c = take c.count c.list
+chosen c = c.elements.items
 
 abbrev pub counted_before : Option CountingElement → List CountingElement → List CountingElement
 counted_before None es = es

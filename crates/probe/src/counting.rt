@@ -1,15 +1,12 @@
 //! The elements that count in a reading.
-ghost use Rattle.std.specs.Prelude.{◌≤◌};
-
+use arrayvec::ArrayVec;
 use working::element::CountingElement;
 
 pub mod selecting;
 
-/// At most sixteen, from the bottom up, and a word with bit n - 1 set for each element n that counts.
-#[derive(Clone, Copy)]
+/// From the bottom up, and a word with bit n - 1 set for each element n that counts.
+#[derive(PartialEq, Eq, Debug, Drop)]
 pub struct Counting {
-    list: [CountingElement; 16],
-    count: usize,
+    elements: ArrayVec<CountingElement, 16>,
     word: u16,
-    ghost few: { count ≤ 16 },
 }

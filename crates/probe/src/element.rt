@@ -9,7 +9,7 @@ const COLDEST_GOOD: i32 = -4_000;
 const WARMEST_GOOD: i32 = 15_000;
 
 /// Temperatures are in hundredths of a °C.
-#[derive(Clone, Copy)]
+#[derive(Clone, Copy, PartialEq, Eq, Debug)]
 pub enum ElementState {
     /// No temperature yet.
     Unheard,
@@ -20,17 +20,17 @@ pub enum ElementState {
     Open,
 }
 
-#[derive(Clone, Copy)]
+#[derive(Clone, Copy, PartialEq, Eq, Debug)]
 pub struct ProbeElement {
     /// In tenths of a millimetre.
     pub height: u32,
     pub state: ElementState,
 }
 
-impl ElementState {
-    fn of(hundredths: i32) -> ElementState
-        ensures { result ≡ state_of hundredths }
-    {
+impl From<i32> for ElementState {
+    ghost from_gives = { λ hundredths state. state ≡ state_of hundredths };
+
+    fn from(hundredths: i32) -> Self {
         if hundredths < COLDEST_GOOD {
             ElementState::Short
         } else if hundredths > WARMEST_GOOD {
@@ -46,7 +46,7 @@ impl ProbeElement {
     pub fn hear(&mut self, hundredths: i32)
         ensures { self.new ≡ heard self.old hundredths }
     {
-        self.state = ElementState::of(hundredths);
+        self.state = ElementState::from(hundredths);
     }
 
     /// The element as it counts in the liquid from the water up to the level, where it does.
@@ -54,7 +54,7 @@ impl ProbeElement {
         ensures { result ≡ counted water level self }
     {
         match self.state {
-            ElementState::Good(hundredths) if water <= self.height && self.height <= level => Some(
+            ElementState::Good(hundredths) if (water..=level).contains(&self.height) => Some(
                 CountingElement {
                     height: self.height,
                     hundredths,

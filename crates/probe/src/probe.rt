@@ -7,13 +7,13 @@ use super::element::ProbeElement;
 pub mod fitting;
 
 /// The entries of sixteen elements.
-#[derive(Clone, Copy)]
+#[derive(Clone, Copy, PartialEq, Eq, Debug)]
 pub struct Entries {
     list: [ProbeElement; 16],
 }
 
 /// The first `fitted` entries are in use: their heights rise strictly, and a good temperature is within its limits.
-#[derive(Clone, Copy)]
+#[derive(Clone, Copy, PartialEq, Eq, Debug)]
 pub struct Probe {
     entries: Entries,
     fitted: usize,

@@ -7,12 +7,8 @@ ghost use Rattle.probe.specs.Probes.{fitted_in};
 use super::super::element::ProbeElement;
 use super::super::probe::Probe;
 use super::Counting;
+use arrayvec::ArrayVec;
 use working::element::CountingElement;
-
-const NO_ELEMENT: CountingElement = CountingElement {
-    height: 0,
-    hundredths: 0,
-};
 
 impl Probe {
     /// The good elements between the water and the level, both included.
@@ -29,25 +25,25 @@ fn counting_among(elements: &[ProbeElement], water: u32, level: u32) -> Counting
     ensures elements { chosen result ≡ counting water level elements.now }
     ensures word { result.word ≡ counting_word water level elements.now }
 {
-    let mut list = [NO_ELEMENT; 16];
-    let mut count = 0;
+    let mut chosen = ArrayVec::new();
     let mut word: u16 = 0;
-    for i in 0..elements.len() {
-        if let Some(element) = elements[i].counted(water, level) {
-            list[count] = element;
-            count += 1;
+    for (i, element) in elements.iter().enumerate() {
+        if let Some(element) = element.counted(water, level) {
+            chosen.push(element);
             word |= 1 << i;
         }
     }
-    Counting { list, count, word }
+    Counting {
+        elements: chosen,
+        word,
+    }
 }
 
 impl Counting {
     pub fn elements(&self) -> &[CountingElement]
         ensures { result.now ≡ chosen self.now }
     {
-        let (elements, _free) = self.list.split_at(self.count);
-        elements
+        self.elements.as_slice()
     }
 
     pub fn word(&self) -> u16
@@ -65,8 +61,6 @@ impl Counting {
 }
 
 /// The word has bit n - 1 set exactly for the elements n that count, and as many ones as elements count.
-pub fn counting_keeps_its_laws() -> u8
+pub fn counting_keeps_its_laws()
     ensures { CountingLaws }
-{
-    0
-}
+{}

@@ -33,18 +33,16 @@ impl Probe {
         ensures value { result.now ≡ fitted_in self.now }
         ensures few { length result.now ≤ 16 }
     {
-        let (elements, _free) = self.entries.list.split_at(self.fitted);
-        elements
+        &self.entries.list[..self.fitted]
     }
 
     /// The lowest height at which another element can be fitted.
     fn lowest_free(&self) -> u32
         ensures { result ≡ lowest_free (fitted_in self.now) }
     {
-        if self.fitted == 0 {
-            return 0;
-        }
-        self.entries.list[self.fitted - 1].height + 1
+        self.elements()
+            .last()
+            .map_or(0, |element| element.height + 1)
     }
 
     /// Fits an element above the others. It has no temperature yet.
@@ -55,7 +53,7 @@ impl Probe {
         if self.fitted >= MOST_ELEMENTS {
             return Err(Cause::ProbeFull.at(16));
         }
-        if height < self.lowest_free() || height > HIGHEST_LEVEL {
+        if !(self.lowest_free()..=HIGHEST_LEVEL).contains(&height) {
             return Err(Cause::ElementHeight.at(i64::from(height)));
         }
         self.entries.list[self.fitted] = ProbeElement {
@@ -74,8 +72,7 @@ impl Probe {
         if number < 1 || number as usize > self.fitted {
             return Err(Cause::ElementNotFitted.at(i64::from(number)));
         }
-        let entry = &mut self.entries.list[number as usize - 1];
-        entry.hear(hundredths);
+        self.entries.list[number as usize - 1].hear(hundredths);
         Ok(())
     }
 }

@@ -1,23 +1,22 @@
-use Rattle.std.proofs.Common.{◌≡◌, ℕ, suc, ◌+◌, ◌-◌, ◌<◌, length, get_or, take, sym, ap, ◌∙◌, arith}
+use Rattle.std.proofs.Common.{◌≡◌, ◌+◌, ◌-◌, ◌<◌, ◌≤◌, length, get_or, Bor, Some, ap, ◌∙◌, arith, rules}
+use Rattle.measure.specs.Limits.{highest_level}
+use Rattle.probe.specs.declared.element.ProbeElement.{ProbeElement}
 use Rattle.probe.specs.Elements.{lowest_free, new_element}
-use Rattle.probe.proofs.Fitted.{entered, lowest_at, free_within}
+use Rattle.probe.proofs.Fitted.{entered, free_within, free_above, free_is}
 use Rattle.probe.proofs.probe.Probe.lowest_free.Goals as goal
-use Rattle.probe.proofs.probe.Probe.lowest_free.Goals.{After-way_told-1}
 
-value : (c : goal.After-way_told-1) → lowest_free (take c.args.self.now.fitted c.args.self.now.entries.list) ≡ (get_or c.args.self.now.entries.list (c.args.self.now.fitted - 1) (new_element 0)).height + 1
-value c =
-    let p = c.args.self.now in
-    let held = entered p in
-    let few = held.few in
-    let all = held.all in
-    let before : suc (p.fitted - 1) ≡ p.fitted = omega (arith, c.if-self-eq0.false) in
-    let room : p.fitted - 1 < length p.entries.list = omega (arith, few, all, c.if-self-eq0.false) in
-    ap (λ (n : ℕ). lowest_free (take n p.entries.list)) (sym before) ∙ lowest_at (p.fitted - 1) p.entries.list (new_element 0) room
-
-pub overflow_add-result : goal.overflow_add-result
-overflow_add-result c =
-    let p = c.args.self.now in
-    omega (arith, value c, free_within 0 (take p.fitted p.entries.list) (entered p).standing)
+pub map_or-requires : goal.map_or-requires
+map_or-requires c =
+    let es = c.elements.result.now in
+    let most = free_within 0 es (rw c.elements.ensures.value (entered c.args.self.now).standing) in
+    let last_most : (x : Bor ProbeElement) → c.last.result ≡ Some x → x.now.height ≤ highest_level = λ x is.
+    let item = rw is at c.last.ensures.item in
+    omega (arith, free_above es x.now item.3.0 item.1, most) in
+    search (rules, last_most)
 
 pub returns : goal.returns
-returns c = sym (value c)
+returns c =
+    let es = c.elements.result.now in
+    let some : 0 < length es → c.map_or.result ≡ (get_or es (length es - 1) (new_element 0)).height + 1 = λ h. search rules in
+    let none : length es ≤ 0 → c.map_or.result ≡ 0 = λ h. search rules in
+    free_is es c.map_or.result some none ∙ ap lowest_free c.elements.ensures.value
