@@ -1,10 +1,9 @@
 -- The table of constants of the API rules.
-use Rattle.std.specs.Prelude.{ℕ, Bool, ◌&&◌, List, [], ◌∷◌, ℤ, pos, negsuc, Option, nat_le}
+use Rattle.std.specs.Prelude.{ℕ, Bool, true, false, ◌&&◌, List, [], ◌∷◌, ℤ, pos, negsuc, Option, nat_le}
 use Rattle.std.specs.List.{find}
 use Rattle.product.specs.declared.api.ApiRule.{ApiRule}
 use Rattle.product.specs.declared.api.ApiRule.TheVariants.{Crude, Products, Lubricants}
 use Rattle.product.specs.declared.api.line.Line.{Line}
-use Rattle.product.specs.contracts.api.ApiRulePartialEq.TheImpl.{eq-value}
 
 abbrev pub line : ApiRule → ℕ → ℕ → ℕ → ℕ → ℤ → Line
 line rule low high k0 k1 k2 = record { rule = rule; low = low; high = high; k0 = k0; k1 = k1; k2 = k2 }
@@ -20,9 +19,16 @@ lines =
     ∷ line Lubricants 1600 2328 0 6278 (pos 0)
     ∷ []
 
--- the equality that rules derive
 abbrev pub same_rule : ApiRule → ApiRule → Bool
-same_rule = eq-value.it
+same_rule Crude Crude = true
+same_rule Crude Products = false
+same_rule Crude Lubricants = false
+same_rule Products Crude = false
+same_rule Products Products = true
+same_rule Products Lubricants = false
+same_rule Lubricants Crude = false
+same_rule Lubricants Products = false
+same_rule Lubricants Lubricants = true
 
 abbrev pub covers : ApiRule → ℕ → Line → Bool
 covers rule r l = same_rule l.rule rule && nat_le l.low r && nat_le r l.high
