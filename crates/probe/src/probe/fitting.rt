@@ -72,7 +72,8 @@ impl Probe {
         if number < 1 || number as usize > self.fitted {
             return Err(Cause::ElementNotFitted.at(i64::from(number)));
         }
-        self.entries.list[number as usize - 1].hear(hundredths);
+        let entry = &mut self.entries.list[number as usize - 1];
+        entry.hear(hundredths);
         Ok(())
     }
 }

@@ -1,4 +1,4 @@
-use Rattle.std.proofs.Common.{◌≡◌, ◌<◌, ◌≤◌, true, List, length, sym, ap, ◌∙◌, subst, arith}
+use Rattle.std.proofs.Common.{◌≡◌, ◌<◌, ◌≤◌, true, List, length, sym, ap, ◌∙◌, subst, arith, rules}
 use Rattle.std.proofs.lemmas.Bool.{eqb-false}
 use Rattle.measure.specs.Limits.{highest_level}
 use Rattle.table_laws.proofs.Answers.{answer_laws}
@@ -44,3 +44,6 @@ invariant_of-observation g c =
         (rule.density_least, rule.density_most),
       );
     }
+
+pub returns-clause-answer : goal.returns-clause-answer
+returns-clause-answer g c = rw (← c.self.view_is) (search rules, search rules)
