@@ -32,7 +32,10 @@ shape_volume (Strapped rows) h = rows_volume (sealed rows.now) h
 shape_volume (Upright height litres_per_metre) h = over (h * litres_per_metre) heights_per_metre (lit< tt)
 
 -- the kind of table that is made of every survey: the fill limit above the datum above the table
-abbrev pub tank_meaning : TableMeaning (FillLimit (RaisedDatum Surveyed))
+abbrev pub TankTable : Type 0
+TankTable = FillLimit (RaisedDatum Surveyed)
+
+abbrev pub tank_meaning : TableMeaning TankTable
 tank_meaning = limited_meaning (raised_meaning surveyed_meaning)
 
 -- the heights that a survey covers, and its volumes: the datum is added, and the fill limit cuts off
@@ -61,14 +64,14 @@ abbrev pub tank_refusal : SurveyedTank → Option Refusal
 tank_refusal t = result_err t.table
 
 -- the heights that a tank's table covers: none where it has no table
-abbrev pub reach_of : Result (FillLimit (RaisedDatum Surveyed)) Refusal → ℕ
+abbrev pub reach_of : Result TankTable Refusal → ℕ
 reach_of (Ok table) = tank_meaning.reach table
 reach_of (Err e) = 0
 
 abbrev pub tank_reach : SurveyedTank → ℕ
 tank_reach t = reach_of t.table
 
-abbrev pub answer_from : Result (FillLimit (RaisedDatum Surveyed)) Refusal → ℕ → Result ℕ Refusal
+abbrev pub answer_from : Result TankTable Refusal → ℕ → Result ℕ Refusal
 answer_from (Ok table) h = answered tank_meaning table h
 answer_from (Err e) h = Err e
 

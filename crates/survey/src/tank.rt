@@ -27,10 +27,13 @@ pub struct Survey<'a> {
     pub limit: u32,
 }
 
+/// The fill limit above the datum above the table of what was surveyed.
+type TankTable<'a> = FillLimit<RaisedDatum<Surveyed<'a>>>;
+
 /// A surveyed tank: the table of its survey, or why none can be made of it.
 #[derive(Drop)]
 pub struct SurveyedTank<'a> {
-    table: Result<FillLimit<RaisedDatum<Surveyed<'a>>>, Refusal>,
+    table: Result<TankTable<'a>, Refusal>,
 }
 
 impl<'a> SurveyedTank<'a> {
@@ -63,7 +66,7 @@ impl<'a> SurveyedTank<'a> {
         Ok(self.table()?.tenths(height)?)
     }
 
-    fn table(&self) -> Result<&FillLimit<RaisedDatum<Surveyed<'a>>>, Refusal>
+    fn table(&self) -> Result<&TankTable<'a>, Refusal>
         ensures { MatchResult result (λ table. self.now.table ≡ Ok table.now) (λ e. self.now.table ≡ Err e) }
     {
         self.table.as_ref().map_err(|refusal| *refusal)
@@ -71,8 +74,7 @@ impl<'a> SurveyedTank<'a> {
 }
 
 impl<'a> Survey<'a> {
-    /// What was surveyed, the datum above it, and the fill limit above that.
-    fn table(&self) -> Result<FillLimit<RaisedDatum<Surveyed<'a>>>, Refusal>
+    fn table(&self) -> Result<TankTable<'a>, Refusal>
         ensures { MatchResult result
             (λ table. (shape_refusal self.now.shape ≡ None)
             × Covers tank_meaning table (survey_reach self.now) (survey_volume self.now))
