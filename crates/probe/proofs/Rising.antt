@@ -2,6 +2,7 @@
 use Rattle.std.proofs.Common.{◌≡◌, ℕ, ◌+◌, ◌≤◌, max, true, ◌&&◌, leb, List, [], ◌∷◌, Some, None, refl, arith}
 use Rattle.std.proofs.lemmas.Bool.Decides.{nat_tests}
 use Rattle.std.proofs.lemmas.Bool.{and_parts, leb-true, cond_both}
+use Rattle.std.specs.List.{cons_option}
 use Rattle.working.specs.declared.element.CountingElement.{CountingElement}
 use Rattle.working.specs.Limits.{good_temperature}
 use Rattle.working.specs.Averages.{rising_from}
@@ -9,7 +10,7 @@ use Rattle.probe.specs.declared.element.ElementState.{ElementState}
 use Rattle.probe.specs.declared.element.ElementState.TheVariants.{Unheard, Good, Short, Open}
 use Rattle.probe.specs.declared.element.ProbeElement.{ProbeElement}
 use Rattle.probe.specs.Elements.{right_from, state_right}
-use Rattle.probe.specs.Counted.{counting, counted_before}
+use Rattle.probe.specs.Counted.{counting}
 use Rattle.probe.proofs.Fitted.{right_parts}
 
 rising_made : (from level : ℕ) (e : CountingElement) (es : List CountingElement) → from ≤ e.height → e.height ≤ level → good_temperature e.hundredths ≡ true → rising_from (e.height + 1) es level ≡ true → rising_from from (e ∷ es) level ≡ true
@@ -22,7 +23,7 @@ by_state from low height water level Short es h above right rest = rest from (om
 by_state from low height water level Open es h above right rest = rest from (omega arith)
 by_state from low height water level (Good t) es h above right rest =
     let e : CountingElement = record { height = height; hundredths = t } in
-    cond_both (leb water height && leb height level) (Some e) None (λ found. rising_from from (counted_before found (counting water level es)) level ≡ true)
+    cond_both (leb water height && leb height level) (Some e) None (λ found. rising_from from (cons_option found (counting water level es)) level ≡ true)
     (λ inside.
     let parts = and_parts (leb water height) (leb height level) inside in
     let wet = leb-true water height parts.0 in

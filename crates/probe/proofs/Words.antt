@@ -4,10 +4,11 @@ use native.Mathlib.Nat.{div-div-eq-div-mul}
 use lib.Bits.{bit_or, or_shifted_r}
 use lib.Count.{ones, ones_step}
 use Rattle.std.proofs.lemmas.Nat.{one_shl}
+use Rattle.std.specs.List.{cons_option}
 use Rattle.working.specs.declared.element.CountingElement.{CountingElement}
 use Rattle.probe.specs.declared.element.ProbeElement.{ProbeElement}
 use Rattle.probe.specs.Elements.{counted, new_element}
-use Rattle.probe.specs.Counted.{counting, counting_word, counted_before, bit_of}
+use Rattle.probe.specs.Counted.{counting, counting_word, bit_of}
 use Rattle.probe.specs.CountingLaws.{CountingLaws}
 
 -- ---- setting a bit above the others
@@ -34,7 +35,7 @@ lowest_bit : (c : Option CountingElement) (n : ℕ) → ((bit_of c + 2 * n) % 2 
 lowest_bit None n = omega arith
 lowest_bit (Some e) n = omega arith
 
-counted_length : (c : Option CountingElement) (es : List CountingElement) → length (counted_before c es) ≡ bit_of c + length es
+counted_length : (c : Option CountingElement) (es : List CountingElement) → length (cons_option c es) ≡ bit_of c + length es
 counted_length None es = omega arith
 counted_length (Some e) es = omega arith
 

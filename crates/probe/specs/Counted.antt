@@ -1,5 +1,6 @@
 -- The elements that count from the water up to the level, and the word that names them.
 use Rattle.std.specs.Prelude.{ℕ, ◌+◌, ◌*◌, List, [], ◌∷◌, Some, None, Option}
+use Rattle.std.specs.List.{filter_map}
 use Rattle.working.specs.declared.element.CountingElement.{CountingElement}
 use Rattle.probe.specs.declared.element.ProbeElement.{ProbeElement}
 use Rattle.probe.specs.declared.counting.Counting.{Counting}
@@ -8,14 +9,9 @@ use Rattle.probe.specs.Elements.{counted}
 abbrev pub chosen : Counting → List CountingElement
 chosen c = c.elements.items
 
-abbrev pub counted_before : Option CountingElement → List CountingElement → List CountingElement
-counted_before None es = es
-counted_before (Some e) es = e ∷ es
-
 -- those that count, from the bottom up
 abbrev pub counting : ℕ → ℕ → List ProbeElement → List CountingElement
-counting water level [] = []
-counting water level (e ∷ es) = counted_before (counted water level e) (counting water level es)
+counting water level es = filter_map (counted water level) es
 
 abbrev pub bit_of : Option CountingElement → ℕ
 bit_of None = 0

@@ -1,4 +1,5 @@
 //! The elements that count in a reading.
+use super::probe::MOST_ELEMENTS;
 use arrayvec::ArrayVec;
 use working::element::CountingElement;
 
@@ -7,6 +8,6 @@ pub mod selecting;
 /// From the bottom up, and a word with bit n - 1 set for each element n that counts.
 #[derive(Clone, PartialEq, Eq, Debug, Drop)]
 pub struct Counting {
-    elements: ArrayVec<CountingElement, 16>,
+    elements: ArrayVec<CountingElement, MOST_ELEMENTS>,
     word: u16,
 }

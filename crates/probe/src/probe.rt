@@ -6,10 +6,12 @@ use super::element::ProbeElement;
 
 pub mod fitting;
 
+pub(crate) const MOST_ELEMENTS: usize = 16;
+
 /// The entries of sixteen elements.
 #[derive(Clone, Copy, PartialEq, Eq, Debug)]
 pub struct Entries {
-    list: [ProbeElement; 16],
+    list: [ProbeElement; MOST_ELEMENTS],
 }
 
 /// The first `fitted` entries are in use: their heights rise strictly, and a good temperature is within its limits.

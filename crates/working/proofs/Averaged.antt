@@ -1,7 +1,8 @@
 -- The laws of the average.
-use Rattle.std.proofs.Common.{◌≡◌, ℕ, ◌+◌, ◌-◌, ◌*◌, ◌<◌, true, cond, List, [], ◌∷◌, ℤ, pos, ◌+ℤ◌, ◌*ℤ◌, ◌≤ℤ◌, sym, subst, arith}
-use lib.Signed.{le_z}
+use Rattle.std.proofs.Common.{◌≡◌, ℕ, ◌+◌, ◌-◌, ◌*◌, ◌<◌, true, List, [], ◌∷◌, ℤ, pos, ◌+ℤ◌, ◌*ℤ◌, ◌≤ℤ◌, sym, subst, arith}
 use borrow.Author.Differences.{ints}
+use Rattle.std.specs.Int.{int_min, int_max}
+use Rattle.std.proofs.lemmas.Int.{clamps}
 use Rattle.measure.specs.Rounding.{rounded}
 use Rattle.working.specs.declared.element.CountingElement.{CountingElement}
 use Rattle.working.specs.Averages.{weights_from, weights, total, weighted, average, liquid_right}
@@ -24,11 +25,11 @@ total_some es water level h = let p = (liquid_parts es water level h).water_belo
 
 -- ---- between the coldest and the warmest
 
-lesser : (a b : ℤ) → (cond (le_z a b) a b ≤ℤ a) × (cond (le_z a b) a b ≤ℤ b)
-lesser a b = (grind (arith, ints), grind (arith, ints))
+lesser : (a b : ℤ) → (int_min a b ≤ℤ a) × (int_min a b ≤ℤ b)
+lesser a b = (omega (arith, ints, clamps), omega (arith, ints, clamps))
 
-greater : (a b : ℤ) → (a ≤ℤ cond (le_z b a) a b) × (b ≤ℤ cond (le_z b a) a b)
-greater a b = (grind (arith, ints), grind (arith, ints))
+greater : (a b : ℤ) → (a ≤ℤ int_max a b) × (b ≤ℤ int_max a b)
+greater a b = (omega (arith, ints, clamps), omega (arith, ints, clamps))
 
 -- a share n of one and t of the rest, each at least c, is at least n + t of c
 share_least : (n t : ℕ) (c a b w : ℤ) → c ≤ℤ a → c ≤ℤ b → (pos t *ℤ b) ≤ℤ w → (pos (n + t) *ℤ c) ≤ℤ ((pos n *ℤ a) +ℤ w)

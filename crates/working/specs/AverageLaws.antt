@@ -1,5 +1,6 @@
 -- What the average keeps, in the subject's words.
-use Rattle.std.specs.Prelude.{◌≡◌, ℕ, ◌-◌, ◌*◌, true, cond, List, [], ◌∷◌, ℤ, pos, ◌*ℤ◌, ◌≤ℤ◌, int_le}
+use Rattle.std.specs.Prelude.{◌≡◌, ℕ, ◌-◌, ◌*◌, true, List, [], ◌∷◌, ℤ, pos, ◌*ℤ◌, ◌≤ℤ◌}
+use Rattle.std.specs.Int.{int_min, int_max}
 use Rattle.working.specs.declared.element.CountingElement.{CountingElement}
 use Rattle.working.specs.Averages.{weights, total, average, liquid_right}
 
@@ -7,12 +8,12 @@ use Rattle.working.specs.Averages.{weights, total, average, liquid_right}
 abbrev pub coldest : List CountingElement → ℤ
 coldest [] = pos 0
 coldest (e ∷ []) = e.hundredths
-coldest (e ∷ (next ∷ es)) = cond (int_le e.hundredths (coldest (next ∷ es))) e.hundredths (coldest (next ∷ es))
+coldest (e ∷ (next ∷ es)) = int_min e.hundredths (coldest (next ∷ es))
 
 abbrev pub warmest : List CountingElement → ℤ
 warmest [] = pos 0
 warmest (e ∷ []) = e.hundredths
-warmest (e ∷ (next ∷ es)) = cond (int_le (warmest (next ∷ es)) e.hundredths) e.hundredths (warmest (next ∷ es))
+warmest (e ∷ (next ∷ es)) = int_max e.hundredths (warmest (next ∷ es))
 
 pub record AverageLaws : Type 0 where
   -- the weights add up to twice the height of liquid

@@ -11,10 +11,6 @@ warmest_good = pos 15000
 abbrev pub good_temperature : ℤ → Bool
 good_temperature t = int_le coldest_good t && int_le t warmest_good
 
--- an average of such temperatures, in ten-millionths of a °C
-abbrev pub good_average : ℤ → Bool
-good_average t = int_le (negsuc 399999999) t && int_le t (pos 1500000000)
-
 -- the shell coefficient, in units of 10^-7 per °C
 abbrev pub largest_shell : ℕ
 largest_shell = 300
@@ -34,7 +30,10 @@ pub record Between (below above : ℕ) (z : ℤ) : Type 0 where
   pub least : neg_ℤ (pos below) ≤ℤ z
   pub most : z ≤ℤ pos above
 
--- how far an average is from 15 °C, in ten-millionths of a °C
+-- an average of good temperatures, and how far it is from 15 °C, in ten-millionths of a °C
+abbrev pub AverageWithin : ℤ → Type 0
+AverageWithin t = Between 400000000 1500000000 t
+
 abbrev pub OffsetWithin : ℤ → Type 0
 OffsetWithin d = Between 550000000 1350000000 d
 

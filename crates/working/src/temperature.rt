@@ -1,6 +1,5 @@
 //! An average temperature.
-ghost use Rattle.std.specs.Prelude.{◌≡◌, true};
-ghost use Rattle.working.specs.Limits.{good_average};
+ghost use Rattle.working.specs.Limits.{AverageWithin};
 
 pub mod offset;
 
@@ -8,5 +7,5 @@ pub mod offset;
 #[derive(Clone, Copy, PartialEq, Eq, Debug)]
 pub struct Temperature {
     pub ten_millionths: i64,
-    ghost within: { good_average ten_millionths ≡ true },
+    ghost within: { AverageWithin ten_millionths },
 }

@@ -4,11 +4,9 @@ ghost use Rattle.probe.specs.Elements.{lowest_free};
 ghost use Rattle.probe.specs.Probes.{fitted_in, fit_refusal, hear_refusal, after_fit, after_hearing, done_unless};
 
 use super::super::element::{ElementState, ProbeElement};
-use super::{Entries, Probe};
+use super::{Entries, MOST_ELEMENTS, Probe};
 use measure::limits::HIGHEST_LEVEL;
 use measure::refusal::{Cause, Refusal};
-
-const MOST_ELEMENTS: usize = 16;
 
 const UNFITTED: ProbeElement = ProbeElement {
     height: 0,
@@ -22,7 +20,7 @@ impl Probe {
     {
         Probe {
             entries: Entries {
-                list: [UNFITTED; 16],
+                list: [UNFITTED; MOST_ELEMENTS],
             },
             fitted: 0,
         }
@@ -51,7 +49,7 @@ impl Probe {
         ensures after { fitted_in self.new ≡ after_fit (fitted_in self.old) height }
     {
         if self.fitted >= MOST_ELEMENTS {
-            return Err(Cause::ProbeFull.at(16));
+            return Err(Cause::ProbeFull.at(MOST_ELEMENTS as i64));
         }
         if !(self.lowest_free()..=HIGHEST_LEVEL).contains(&height) {
             return Err(Cause::ElementHeight.at(i64::from(height)));

@@ -1,8 +1,9 @@
 use Rattle.std.proofs.Common.{◌≡◌, ℕ, ◌+◌, ◌*◌, ◌^◌, List, [], ◌∷◌, ◌++◌, drop, Option, sym, ap, ◌∙◌, append_assoc, arith}
 use Rattle.std.proofs.lemmas.List.{at_drop_more}
+use Rattle.std.specs.List.{cons_option}
 use Rattle.working.specs.declared.element.CountingElement.{CountingElement}
 use Rattle.probe.specs.Elements.{new_element}
-use Rattle.probe.specs.Counted.{counting, counting_word, counted_before, bit_of}
+use Rattle.probe.specs.Counted.{counting, counting_word, bit_of}
 use Rattle.probe.proofs.Words.{set_bit, bit_more, word_below, word_still_below}
 use Rattle.probe.proofs.counting.selecting.counting_among.Goals as goal
 use Rattle.probe.proofs.counting.selecting.counting_among.Goals.{in-Some, in_default}
@@ -20,7 +21,7 @@ loop-i-preserved c =
     let total : ℕ = counting_word water level elements in
     let joined : List CountingElement → List CountingElement = λ es. so_far ++ es in
     let raised : ℕ → ℕ = λ n. word + 2 ^ i * n in
-    let chosen_with : Option CountingElement → List CountingElement = λ found. so_far ++ counted_before found after in
+    let chosen_with : Option CountingElement → List CountingElement = λ found. so_far ++ cons_option found after in
     let word_with : Option CountingElement → ℕ = λ found. word + 2 ^ i * (bit_of found + 2 * word_after) in
     let told = c.counted.ensures in
     let list_left : chosen_with c.counted.result ≡ counting water level elements = ap chosen_with told ∙ sym (ap joined (at_drop_more (counting water level) elements i (new_element 0) c.loop-i-test.true)) ∙ c.loop-i.invariant.0 in

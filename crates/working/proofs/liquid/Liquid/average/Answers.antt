@@ -122,7 +122,7 @@ invariant_of-result c =
     let value = quotient c in
     let l = average_least 100000 c.from-weights.result coldest_good c.loop-i.sum w.some w.least in
     let m = average_most 100000 c.from-weights.result warmest_good c.loop-i.sum w.some w.most in
-    record { within = simp to_z-of_z (grind (arith, ints)) }
+    record { within = simp to_z-of_z (record { least = omega (arith, ints); most = omega (arith, ints) }) }
 
 pub returns : goal.returns
 unfolding average
@@ -130,7 +130,7 @@ returns c =
     let after = (goal.at.returns c).After-rounded_signed_quotient in
     let w = whole (goal.at.returns c).After-from-weights in
     let self = c.args.self.now in
-    let sum = sum_above (2 * self.water) self.elements.now self.level in
+    let whole_sum = sum_above (2 * self.water) self.elements.now self.level in
     let f : SFits w64 c.rounded_signed_quotient.result = search rules in
     let value : c.rounded_signed_quotient.result ≡ rounded (pos 100000 *ℤ c.loop-i.sum) c.from-weights.result = quotient after in
-    simp to_z-of_z (value ∙ ap (λ (x : ℤ). rounded (pos 100000 *ℤ x) c.from-weights.result) w.value ∙ ap (λ (n : ℕ). rounded (pos 100000 *ℤ sum) n) w.weight)
+    simp to_z-of_z (value ∙ ap (λ (x : ℤ). rounded (pos 100000 *ℤ x) c.from-weights.result) w.value ∙ ap (λ (n : ℕ). rounded (pos 100000 *ℤ whole_sum) n) w.weight)
