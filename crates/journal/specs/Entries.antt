@@ -1,5 +1,5 @@
 -- What a journal line says.
-use Rattle.std.specs.Prelude.{ℕ, cond, List, [], ◌∷◌, Some, None, Ok, Err, codes, Option, Result}
+use Rattle.std.specs.Prelude.{◌≡◌, ℕ, cond, List, [], ◌∷◌, Some, None, Ok, Err, codes, Option, Result}
 use Rattle.std.specs.Option.{ok_or}
 use Rattle.std.specs.Str.{bytes_eq}
 use Rattle.journal.specs.declared.verb.Verb.{Verb}
@@ -35,6 +35,10 @@ numbered verb (b ∷ bs) = ok_or (decimal (b ∷ bs)) (Number verb)
 abbrev pub ended : Verb → Entry → List ℕ → Result (Option Entry) Wrong
 ended verb entry [] = Ok (Some entry)
 ended verb entry (b ∷ bs) = Err (Extra verb)
+
+-- what makes an entry of a number makes this one
+abbrev pub Makes : (ℕ → Entry → Type 0) → (ℕ → Entry) → Type 0
+Makes gives made = (n : ℕ) (entry : Entry) → gives n entry → entry ≡ made n
 
 -- a number, and nothing more
 abbrev pub number_entry : Verb → (ℕ → Entry) → List ℕ → Result (Option Entry) Wrong

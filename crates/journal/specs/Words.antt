@@ -1,7 +1,7 @@
 -- How a journal line falls into words, and what number a word writes.
-use Rattle.std.specs.Prelude.{ℕ, ◌+◌, ◌-◌, ◌*◌, ◌^◌, Bool, cond, not, ◌&&◌, ◌||◌, List, [], ◌∷◌, length, take, drop, Some, None, Option, ◌==◌, nat_le, nat_lt, slice_index}
-use Rattle.journal.specs.declared.words.Kind.{Kind}
-use Rattle.journal.specs.declared.words.Kind.TheVariants.{Blank, Letter, NoComment, NoNewline}
+use Rattle.std.specs.Prelude.{◌≡◌, ℕ, ◌+◌, ◌-◌, ◌*◌, ◌^◌, Bool, cond, not, ◌&&◌, ◌||◌, List, [], ◌∷◌, take, drop, Some, None, Option, ◌==◌, nat_le, nat_lt}
+use Rattle.std.specs.List.{position_or_len, before_first, slice_split}
+use Rattle.std.specs.Str.Lines.{strip_carriage_return}
 
 -- ---- bytes
 
@@ -14,55 +14,43 @@ tab = 9
 abbrev pub newline : ℕ
 newline = 10
 
-abbrev pub carriage_return : ℕ
-carriage_return = 13
-
 abbrev number_sign : ℕ
 number_sign = 35
 
 abbrev digit_zero : ℕ
 digit_zero = 48
 
-abbrev pub has : Kind → ℕ → Bool
-has Blank b = b == space || b == tab
-has Letter b = not (b == space || b == tab)
-has NoComment b = not (b == number_sign)
-has NoNewline b = not (b == newline)
+abbrev pub is_blank : ℕ → Bool
+is_blank b = b == space || b == tab
+
+-- the first n bytes of a text, and the rest
+abbrev pub CutAt : List ℕ → ℕ → List ℕ → List ℕ → Type 0
+CutAt text n front rest = (front ≡ take n text) × (rest ≡ drop n text)
 
 -- ---- lines
 
 -- what stands before, between and after the newlines of a text
-abbrev pub begun_by : ℕ → List (List ℕ) → List (List ℕ)
-begun_by b [] = (b ∷ []) ∷ []
-begun_by b (line ∷ lines) = (b ∷ line) ∷ lines
-
 abbrev pub lines_of : List ℕ → List (List ℕ)
-lines_of [] = [] ∷ []
-lines_of (b ∷ bs) = cond (b == newline) ([] ∷ lines_of bs) (begun_by b (lines_of bs))
+lines_of text = slice_split (λ b. b == newline) text
 
 -- a line may end in a carriage return, which is no part of it
 abbrev pub without_return : List ℕ → List ℕ
-without_return line = cond (slice_index line (length line - 1) == carriage_return) (take (length line - 1) line) line
+without_return line = strip_carriage_return line
 
 -- ---- words
 
--- how many bytes of one kind begin the text
-abbrev pub front : Kind → List ℕ → ℕ
-front kind [] = 0
-front kind (b ∷ bs) = cond (has kind b) (front kind bs + 1) 0
-
 abbrev pub before_comment : List ℕ → List ℕ
-before_comment line = take (front NoComment line) line
+before_comment line = before_first (λ b. b == number_sign) line
 
 abbrev pub past_blanks : List ℕ → List ℕ
-past_blanks text = drop (front Blank text) text
+past_blanks text = drop (position_or_len (λ b. not (is_blank b)) text) text
 
 -- the first word of a text, empty where there is none, and what follows it
 abbrev pub next_word : List ℕ → List ℕ
-next_word text = take (front Letter (past_blanks text)) (past_blanks text)
+next_word text = before_first is_blank (past_blanks text)
 
 abbrev pub after_word : List ℕ → List ℕ
-after_word text = drop (front Letter (past_blanks text)) (past_blanks text)
+after_word text = drop (position_or_len is_blank (past_blanks text)) (past_blanks text)
 
 -- ---- numbers
 

@@ -1,10 +1,11 @@
 //! One line of a journal.
-ghost use Rattle.std.specs.Prelude.{◌≡◌};
-ghost use Rattle.journal.specs.Entries.{numbered, ended, survey_entry, shape_entry, upright_entry, row_entry, entry_of};
+ghost use Rattle.std.specs.Prelude.{◌≡◌, ℕ};
+ghost use Rattle.journal.specs.declared.verb.Verb.TheVariants.{Survey, Row as RowVerb};
+ghost use Rattle.journal.specs.Entries.{numbered, ended, Makes, number_entry, survey_entry, shape_entry, upright_entry, row_entry, entry_of};
 ghost use Rattle.journal.specs.Words.{next_word, after_word};
 
 use super::verb::Verb;
-use super::words::{Words, number, spells};
+use super::words::{Words, number};
 use super::wrong::Wrong;
 use capacity::row::Row;
 
@@ -32,90 +33,93 @@ pub(crate) fn entry_of(line: &[u8]) -> Result<Option<Entry>, Wrong>
     let Some(word) = words.next() else {
         return Ok(None);
     };
-    let Some(verb) = Verb::of(word) else {
-        return Err(Wrong::UnknownWord);
-    };
+    let verb = Verb::of(word).ok_or(Wrong::UnknownWord)?;
+    let line = Line { verb, words };
     match verb {
-        Verb::Survey => survey(words),
-        Verb::Row => row(words),
-        Verb::Datum => {
-            let rise = number_word(&mut words, verb)?;
-            finished(words, verb, Entry::Datum(rise))
-        }
-        Verb::Limit => {
-            let limit = number_word(&mut words, verb)?;
-            finished(words, verb, Entry::Limit(limit))
-        }
-        Verb::Dip => {
-            let height = number_word(&mut words, verb)?;
-            finished(words, verb, Entry::Dip(height))
-        }
+        Verb::Survey => line.survey(),
+        Verb::Row => line.row(),
+        Verb::Datum => line.only(Entry::Datum),
+        Verb::Limit => line.only(Entry::Limit),
+        Verb::Dip => line.only(Entry::Dip),
     }
 }
 
-fn survey(mut words: Words) -> Result<Option<Entry>, Wrong>
-    ensures { result ≡ survey_entry words.entry.rest.now }
-{
-    let date = number_word(&mut words, Verb::Survey)?;
-    match words.next() {
-        Some(shape) => shaped_survey(words, date, shape),
-        None => Err(Wrong::Missing(Verb::Survey)),
+/// A line: the verb that begins it, and the words after that.
+#[derive(Drop)]
+struct Line<'a> {
+    verb: Verb,
+    words: Words<'a>,
+}
+
+impl<'a> Line<'a> {
+    /// The next word, as a number.
+    fn number(&mut self) -> Result<u32, Wrong>
+        ensures value { result ≡ numbered self.old.verb (next_word self.old.words.rest.now) }
+        ensures verb { self.new.verb ≡ self.old.verb }
+        ensures rest { self.new.words.rest.now ≡ after_word self.old.words.rest.now }
+    {
+        let word = self.words.next().ok_or(Wrong::Missing(self.verb))?;
+        number(word).ok_or(Wrong::Number(self.verb))
     }
-}
 
-fn shaped_survey(words: Words, date: u32, shape: &[u8]) -> Result<Option<Entry>, Wrong>
-    ensures { result ≡ shape_entry date shape.now words.entry.rest.now }
-{
-    if spells(shape, b"strapped") {
-        finished(words, Verb::Survey, Entry::Strapped { date })
-    } else if spells(shape, b"upright") {
-        upright(words, date)
-    } else {
-        Err(Wrong::UnknownShape)
+    /// The entry, where no word follows it.
+    fn end(mut self, entry: Entry) -> Result<Option<Entry>, Wrong>
+        ensures { result ≡ ended self.entry.verb entry (next_word self.entry.words.rest.now) }
+    {
+        match self.words.next() {
+            Some(_) => Err(Wrong::Extra(self.verb)),
+            None => Ok(Some(entry)),
+        }
     }
-}
 
-fn upright(mut words: Words, date: u32) -> Result<Option<Entry>, Wrong>
-    ensures { result ≡ upright_entry date words.entry.rest.now }
-{
-    let height = number_word(&mut words, Verb::Survey)?;
-    let litres_per_metre = number_word(&mut words, Verb::Survey)?;
-    let entry = Entry::Upright {
-        date,
-        height,
-        litres_per_metre,
-    };
-    finished(words, Verb::Survey, entry)
-}
+    /// The entry of a number alone.
+    fn only<F: FnOnce(u32) -> Entry>(mut self, entry: F) -> Result<Option<Entry>, Wrong>
+        requires { F.IsAlwaysCallable entry }
+        ensures { (made : ℕ → Entry) → Makes (F.post entry) made → result ≡ number_entry self.entry.verb made self.entry.words.rest.now }
+    {
+        let value = self.number()?;
+        self.end(entry(value))
+    }
 
-fn row(mut words: Words) -> Result<Option<Entry>, Wrong>
-    ensures { result ≡ row_entry words.entry.rest.now }
-{
-    let height = number_word(&mut words, Verb::Row)?;
-    let litres = number_word(&mut words, Verb::Row)?;
-    finished(words, Verb::Row, Entry::Row(Row { height, litres }))
-}
+    fn row(mut self) -> Result<Option<Entry>, Wrong>
+        requires { self.verb ≡ RowVerb }
+        ensures { result ≡ row_entry self.entry.words.rest.now }
+    {
+        let height = self.number()?;
+        let litres = self.number()?;
+        self.end(Entry::Row(Row { height, litres }))
+    }
 
-/// The next word of a line that begins with `verb`, as a number.
-fn number_word(words: &mut Words, verb: Verb) -> Result<u32, Wrong>
-    ensures value { result ≡ numbered verb (next_word words.old.rest.now) }
-    ensures rest { words.new.rest.now ≡ after_word words.old.rest.now }
-{
-    let Some(word) = words.next() else {
-        return Err(Wrong::Missing(verb));
-    };
-    let Some(value) = number(word) else {
-        return Err(Wrong::Number(verb));
-    };
-    Ok(value)
-}
+    fn survey(mut self) -> Result<Option<Entry>, Wrong>
+        requires { self.verb ≡ Survey }
+        ensures { result ≡ survey_entry self.entry.words.rest.now }
+    {
+        let date = self.number()?;
+        let shape = self.words.next().ok_or(Wrong::Missing(Verb::Survey))?;
+        self.shaped_survey(date, shape)
+    }
 
-/// The entry, where no word follows it.
-fn finished(mut words: Words, verb: Verb, entry: Entry) -> Result<Option<Entry>, Wrong>
-    ensures { result ≡ ended verb entry (next_word words.entry.rest.now) }
-{
-    match words.next() {
-        Some(_) => Err(Wrong::Extra(verb)),
-        None => Ok(Some(entry)),
+    fn shaped_survey(self, date: u32, shape: &[u8]) -> Result<Option<Entry>, Wrong>
+        requires { self.verb ≡ Survey }
+        ensures { result ≡ shape_entry date shape.now self.entry.words.rest.now }
+    {
+        match shape {
+            b"strapped" => self.end(Entry::Strapped { date }),
+            b"upright" => self.upright(date),
+            _ => Err(Wrong::UnknownShape),
+        }
+    }
+
+    fn upright(mut self, date: u32) -> Result<Option<Entry>, Wrong>
+        requires { self.verb ≡ Survey }
+        ensures { result ≡ upright_entry date self.entry.words.rest.now }
+    {
+        let height = self.number()?;
+        let litres_per_metre = self.number()?;
+        self.end(Entry::Upright {
+            date,
+            height,
+            litres_per_metre,
+        })
     }
 }

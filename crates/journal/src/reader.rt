@@ -6,7 +6,6 @@ ghost use Rattle.journal.specs.Words.{without_return};
 
 use super::entry::{Entry, entry_of};
 use super::place::Stage;
-use super::words::{Kind, front};
 use super::wrong::Wrong;
 use std::alloc::{AllocFailed, Global};
 use std::fmt;
@@ -59,26 +58,15 @@ pub fn read_journal(heap: Global, text: &[u8]) -> Result<Vec<NumberedEntry>, Fau
     }
     let mut entries = Vec::new(heap);
     let mut stage = Stage::Start;
-    let mut line: u32 = 1;
-    let mut rest = text;
-    loop {
-        let (this, after) = rest.split_at(front(rest, Kind::NoNewline));
-        match place_line(stage, this) {
-            Ok((entry, next)) => {
-                stage = next;
-                if let Some(entry) = entry {
-                    entries.push(NumberedEntry { line, entry })?;
-                }
-            }
-            Err(wrong) => return Err(Fault::Line(line, wrong)),
+    for (i, text) in text.split(|byte| *byte == b'\n').enumerate() {
+        let line = i as u32 + 1;
+        let (entry, next) = place_line(stage, text).map_err(|wrong| Fault::Line(line, wrong))?;
+        stage = next;
+        if let Some(entry) = entry {
+            entries.push(NumberedEntry { line, entry })?;
         }
-        if after.is_empty() {
-            return Ok(entries);
-        }
-        let (_newline, following) = after.split_at(1);
-        rest = following;
-        line += 1;
     }
+    Ok(entries)
 }
 
 /// The entry of a line and the stage after it.
@@ -95,13 +83,5 @@ fn place_line(stage: Stage, line: &[u8]) -> Result<(Option<Entry>, Stage), Wrong
 fn trimmed(line: &[u8]) -> &[u8]
     ensures { result.now ≡ without_return line.now }
 {
-    let count = line.len();
-    if count == 0 {
-        return line;
-    }
-    if line[count - 1] != b'\r' {
-        return line;
-    }
-    let (text, _return) = line.split_at(count - 1);
-    text
+    line.strip_suffix(b"\r").unwrap_or(line)
 }

@@ -2,8 +2,6 @@
 ghost use Rattle.std.specs.Prelude.{◌≡◌};
 ghost use Rattle.journal.specs.Entries.{verb_of};
 
-use super::words::spells;
-
 #[derive(Clone, Copy, PartialEq, Eq, Debug)]
 pub enum Verb {
     Survey,
@@ -17,18 +15,13 @@ impl Verb {
     pub(crate) fn of(word: &[u8]) -> Option<Verb>
         ensures { result ≡ verb_of word.now }
     {
-        if spells(word, b"survey") {
-            Some(Verb::Survey)
-        } else if spells(word, b"row") {
-            Some(Verb::Row)
-        } else if spells(word, b"datum") {
-            Some(Verb::Datum)
-        } else if spells(word, b"limit") {
-            Some(Verb::Limit)
-        } else if spells(word, b"dip") {
-            Some(Verb::Dip)
-        } else {
-            None
+        match word {
+            b"survey" => Some(Verb::Survey),
+            b"row" => Some(Verb::Row),
+            b"datum" => Some(Verb::Datum),
+            b"limit" => Some(Verb::Limit),
+            b"dip" => Some(Verb::Dip),
+            _ => None,
         }
     }
 }

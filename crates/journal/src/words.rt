@@ -1,46 +1,26 @@
 //! The words of a journal line, and the numbers among them.
-ghost use Rattle.std.specs.Prelude.{◌≡◌, ◌<◌, ◌≤◌, [], length, MatchOption};
-ghost use Rattle.std.specs.Str.{bytes_eq};
-ghost use Rattle.journal.specs.Words.{has, front, before_comment, next_word, after_word, decimal};
+ghost use Rattle.std.specs.Prelude.{◌≡◌, ℕ, ◌<◌, Bool, [], length, MatchOption};
+ghost use Rattle.std.specs.Iterator.{ActsAsAt};
+ghost use Rattle.std.specs.List.{position_or_len};
+ghost use Rattle.journal.specs.Words.{is_blank, CutAt, before_comment, next_word, after_word, decimal};
 
-/// What a scan over a line goes on over.
-#[derive(Clone, Copy)]
-pub(crate) enum Kind {
-    Blank,
-    Letter,
-    NoComment,
-    NoNewline,
-}
-
-impl Kind {
-    pub(crate) fn has(self, byte: u8) -> bool
-        ensures { result ≡ has self byte }
-    {
-        let blank = byte == b' ' || byte == b'\t';
-        match self {
-            Kind::Blank => blank,
-            Kind::Letter => !blank,
-            Kind::NoComment => byte != b'#',
-            Kind::NoNewline => byte != b'\n',
-        }
-    }
-}
-
-/// How many bytes of one kind begin the text.
-pub(crate) fn front(text: &[u8], kind: Kind) -> usize
-    ensures value { result ≡ front kind text.now }
-    ensures bound { result ≤ length text.now }
+fn is_blank(byte: &u8) -> bool
+    ensures { result ≡ is_blank byte.now }
 {
-    for (i, byte) in text.iter().enumerate() {
-        if !kind.has(*byte) {
-            return i;
-        }
-    }
-    text.len()
+    *byte == b' ' || *byte == b'\t'
+}
+
+/// The text before the first byte that ends it, and the rest.
+fn cut<F: FnMut(&u8) -> bool>(text: &[u8], ends: F) -> (&[u8], &[u8])
+    requires { F.IsAlwaysCallable ends }
+    ensures { (p : ℕ → Bool) → ActsAsAt F.FnMut ends p → CutAt text.now (position_or_len p text.now) result.0.now result.1.now }
+{
+    let end = text.iter().position(ends).unwrap_or(text.len());
+    text.split_at(end)
 }
 
 /// What is left of a line: its words are separated by blanks, and `#` begins a comment.
-#[derive(Clone, Copy)]
+#[derive(Drop)]
 pub(crate) struct Words<'a> {
     rest: &'a [u8],
 }
@@ -49,7 +29,7 @@ impl<'a> Words<'a> {
     pub(crate) fn of(line: &'a [u8]) -> Words<'a>
         ensures { result.rest.now ≡ before_comment line.now }
     {
-        let (rest, _comment) = line.split_at(front(line, Kind::NoComment));
+        let (rest, _comment) = cut(line, |byte| *byte == b'#');
         Words { rest }
     }
 
@@ -59,9 +39,8 @@ impl<'a> Words<'a> {
             (λ w. (w.now ≡ next_word self.old.rest.now) × (0 < length w.now)) }
         ensures rest { self.new.rest.now ≡ after_word self.old.rest.now }
     {
-        let line = self.rest;
-        let (_blanks, text) = line.split_at(front(line, Kind::Blank));
-        let (word, rest) = text.split_at(front(text, Kind::Letter));
+        let (_blanks, text) = cut(self.rest, |byte| !is_blank(byte));
+        let (word, rest) = cut(text, is_blank);
         self.rest = rest;
         if word.is_empty() {
             return None;
@@ -77,22 +56,12 @@ pub(crate) fn number(word: &[u8]) -> Option<u32>
     if word.is_empty() {
         return None;
     }
-    let mut value: u64 = 0;
+    let mut value: u32 = 0;
     for byte in word {
-        if *byte < b'0' || *byte > b'9' {
+        if !byte.is_ascii_digit() {
             return None;
         }
-        value = 10 * value + u64::from(*byte - b'0');
-        if value > 0xffff_ffff {
-            return None;
-        }
+        value = value.checked_mul(10)?.checked_add(u32::from(*byte - b'0'))?;
     }
-    Some(value as u32)
-}
-
-/// Whether the word is this text.
-pub(crate) fn spells(word: &[u8], text: &[u8]) -> bool
-    ensures { result ≡ bytes_eq word.now text.now }
-{
-    word == text
+    Some(value)
 }

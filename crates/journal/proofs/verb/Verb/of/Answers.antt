@@ -1,0 +1,8 @@
+use Rattle.std.proofs.Common.{◌≡◌, codes, arith, rules}
+use Rattle.std.proofs.lemmas.Slice.Eq.{text_from_reads}
+use Rattle.journal.proofs.verb.Verb.of.Goals as goal
+
+pub returns-in-survey : goal.returns-in-survey
+returns-in-survey c =
+    let spelled : c.args.word.now ≡ codes "survey" = text_from_reads _ _ (omega arith) (search rules) in
+    rw spelled
