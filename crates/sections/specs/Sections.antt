@@ -1,5 +1,6 @@
 -- The part of a journal that belongs to one survey.
-use Rattle.std.specs.Prelude.{◌≡◌, ℕ, ◌+◌, Bool, true, false, cond, List, [], ◌∷◌, Some, None, Option}
+use Rattle.std.specs.Prelude.{◌≡◌, ℕ, ◌+◌, Bool, true, false, List, [], ◌∷◌, length, Some, None, Option, slice_get}
+use Rattle.std.specs.List.{position, filter_map}
 use Rattle.std.specs.Option.{unwrap_or}
 use Rattle.measure.specs.Limits.{highest_level}
 use Rattle.capacity.specs.declared.row.Row.{Row as TableRow}
@@ -9,8 +10,6 @@ use Rattle.journal.specs.declared.entry.Entry.{Entry}
 use Rattle.journal.specs.declared.entry.Entry.TheVariants.{Strapped, Upright, Row, Datum, Limit, Dip}
 use Rattle.journal.specs.declared.reader.NumberedEntry.{NumberedEntry}
 use Rattle.sections.specs.declared.DatedSurvey.{DatedSurvey}
-use Rattle.sections.specs.declared.Layer.{Layer}
-use Rattle.sections.specs.declared.Layer.TheVariants.{Datum as DatumLayer, Limit as LimitLayer}
 
 -- ---- how far a section goes
 
@@ -24,8 +23,7 @@ begins_survey (Dip height) = false
 
 -- how many entries stand before the next survey
 abbrev pub entries_under : List NumberedEntry → ℕ
-entries_under [] = 0
-entries_under (e ∷ es) = cond (begins_survey e.entry) 0 (entries_under es + 1)
+entries_under entries = unwrap_or (position (λ e. begins_survey e.entry) entries) (length entries)
 
 -- a survey, and the entries under it
 abbrev pub section_length : List NumberedEntry → ℕ
@@ -42,17 +40,12 @@ row_of (Datum rise) = None
 row_of (Limit limit) = None
 row_of (Dip height) = None
 
-abbrev pub row_before : Option TableRow → List TableRow → List TableRow
-row_before None rows = rows
-row_before (Some row) rows = row ∷ rows
-
 abbrev pub rows_in : List NumberedEntry → List TableRow
-rows_in [] = []
-rows_in (e ∷ es) = row_before (row_of e.entry) (rows_in es)
+rows_in entries = filter_map (λ e. row_of e.entry) entries
 
 -- ---- its layers
 
-abbrev datum_of : Entry → Option ℕ
+abbrev pub datum_of : Entry → Option ℕ
 datum_of (Strapped date) = None
 datum_of (Upright date height litres_per_metre) = None
 datum_of (Row row) = None
@@ -60,7 +53,7 @@ datum_of (Datum rise) = Some rise
 datum_of (Limit limit) = None
 datum_of (Dip height) = None
 
-abbrev limit_of : Entry → Option ℕ
+abbrev pub limit_of : Entry → Option ℕ
 limit_of (Strapped date) = None
 limit_of (Upright date height litres_per_metre) = None
 limit_of (Row row) = None
@@ -68,19 +61,9 @@ limit_of (Datum rise) = None
 limit_of (Limit limit) = Some limit
 limit_of (Dip height) = None
 
--- the height of a layer, where the entry sets one
-abbrev pub height_of : Layer → Entry → Option ℕ
-height_of DatumLayer e = datum_of e
-height_of LimitLayer e = limit_of e
-
-abbrev pub or_else : Option ℕ → Option ℕ → Option ℕ
-or_else (Some h) rest = Some h
-or_else None rest = rest
-
 -- the first height that a section sets for a layer
-abbrev pub first_height : Layer → List NumberedEntry → Option ℕ
-first_height layer [] = None
-first_height layer (e ∷ es) = or_else (height_of layer e.entry) (first_height layer es)
+abbrev pub first_height : (Entry → Option ℕ) → List NumberedEntry → Option ℕ
+first_height height_of entries = slice_get (filter_map (λ e. height_of e.entry) entries) 0
 
 -- ---- its survey
 
@@ -116,5 +99,5 @@ section_shape (e ∷ es) rows shape = surveyed_as e.entry rows shape
 pub record SurveyOf (section : List NumberedEntry) (rows : List TableRow) (d : DatedSurvey) : Type 0 where
   pub dated : section_date section ≡ Some d.date
   pub shaped : section_shape section rows d.survey.shape
-  pub raised : d.survey.datum ≡ unwrap_or (first_height DatumLayer section) 0
-  pub limited : d.survey.limit ≡ unwrap_or (first_height LimitLayer section) highest_level
+  pub raised : d.survey.datum ≡ unwrap_or (first_height datum_of section) 0
+  pub limited : d.survey.limit ≡ unwrap_or (first_height limit_of section) highest_level

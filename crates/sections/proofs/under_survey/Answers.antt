@@ -1,26 +1,11 @@
-use Rattle.std.proofs.Common.{arith}
-use Rattle.std.proofs.lemmas.List.{at_drop_more, at_drop_all}
-use Rattle.std.proofs.lemmas.Bool.Decides.{nat_tests}
-use Rattle.sections.specs.Sections.{entries_under}
-use Rattle.sections.proofs.PastEnd.{past_end}
+use Rattle.std.proofs.Common.{ℕ, length, Option, ap, ◌∙◌, rules}
+use Rattle.std.proofs.lemmas.Iterator.{YieldsList-from_slice}
+use Rattle.std.proofs.lemmas.Iterator.Search.{position_from_yields_List}
+use Rattle.std.specs.Option.{unwrap_or}
+use Rattle.sections.specs.Sections.{begins_survey}
 use Rattle.sections.proofs.under_survey.Goals as goal
 
-pub returns-then-is_survey : goal.returns-then-is_survey
-returns-then-is_survey c =
-    let left = c.loop-i.invariant in
-    let more = at_drop_more entries_under c.args.entries.now c.loop-i.i past_end c.loop-i-test.true in
-    let ends = c.if-is_survey.ensures in
-    record { value = grind (arith, nat_tests, left, more, ends); bound = omega arith }
-
-pub loop-i-preserved : goal.loop-i-preserved
-loop-i-preserved c =
-    let left = c.loop-i.invariant in
-    let more = at_drop_more entries_under c.args.entries.now c.loop-i.i past_end c.loop-i-test.true in
-    let goes_on = c.if-is_survey.ensures in
-    grind (arith, nat_tests, left, more, goes_on)
-
-pub returns : goal.returns
-returns c =
-    let left = c.loop-i.invariant in
-    let all = at_drop_all entries_under c.args.entries.now c.loop-i.i c.loop-i-test.false in
-    record { value = grind (arith, nat_tests, left, all); bound = omega arith }
+pub returns-clause-value : goal.returns-clause-value
+returns-clause-value c =
+    let found = position_from_yields_List (λ e. begins_survey e.entry) _ _ c.position.result c.position.ensures.ran (YieldsList-from_slice c.args.entries.now c.iter.ensures.rest) (λ x b q k. search rules) in
+    c.unwrap_or.ensures ∙ ap (λ (found : Option ℕ). unwrap_or found (length c.args.entries.now)) found
