@@ -1,5 +1,6 @@
 -- How a journal line falls into words, and what number a word writes.
-use Rattle.std.specs.Prelude.{◌≡◌, ℕ, ◌+◌, ◌-◌, ◌*◌, ◌^◌, Bool, cond, not, ◌&&◌, ◌||◌, List, [], ◌∷◌, take, drop, Some, None, Option, ◌==◌, nat_le, nat_lt}
+use Rattle.std.specs.Prelude.{◌≡◌, ℕ, ◌+◌, ◌-◌, ◌*◌, ◌^◌, ◌<◌, Bool, cond, not, ◌&&◌, ◌||◌, List, [], ◌∷◌, length, take, drop, MatchOption, Some, None, Option, ◌==◌, nat_le, nat_lt}
+use Rattle.std.specs.Borrow.{Bor}
 use Rattle.std.specs.List.{position_or_len, before_first, slice_split}
 use Rattle.std.specs.Str.Lines.{strip_carriage_return}
 
@@ -51,6 +52,10 @@ next_word text = before_first is_blank (past_blanks text)
 
 abbrev pub after_word : List ℕ → List ℕ
 after_word text = drop (position_or_len is_blank (past_blanks text)) (past_blanks text)
+
+-- taking the next word of a text gives this word, or none, and leaves this rest
+abbrev pub GivesNextWord : List ℕ → Option (Bor (List ℕ)) → List ℕ → Type 0
+GivesNextWord text word rest = MatchOption word (next_word text ≡ []) (λ w. (w.now ≡ next_word text) × (0 < length w.now)) × (rest ≡ after_word text)
 
 -- ---- numbers
 

@@ -38,9 +38,9 @@ pub(crate) fn entry_of(line: &[u8]) -> Result<Option<Entry>, Wrong>
     match verb {
         Verb::Survey => line.survey(),
         Verb::Row => line.row(),
-        Verb::Datum => line.only(Entry::Datum),
-        Verb::Limit => line.only(Entry::Limit),
-        Verb::Dip => line.only(Entry::Dip),
+        Verb::Datum => line.number_entry(Entry::Datum),
+        Verb::Limit => line.number_entry(Entry::Limit),
+        Verb::Dip => line.number_entry(Entry::Dip),
     }
 }
 
@@ -73,7 +73,7 @@ impl<'a> Line<'a> {
     }
 
     /// The entry of a number alone.
-    fn only<F: FnOnce(u32) -> Entry>(mut self, entry: F) -> Result<Option<Entry>, Wrong>
+    fn number_entry<F: FnOnce(u32) -> Entry>(mut self, entry: F) -> Result<Option<Entry>, Wrong>
         requires { F.IsAlwaysCallable entry }
         ensures { (made : ℕ → Entry) → Makes (F.post entry) made → result ≡ number_entry self.entry.verb made self.entry.words.rest.now }
     {

@@ -25,15 +25,8 @@ impl Stage {
         ensures { result ≡ placed self entry }
     {
         match (self, entry) {
-            (_, Entry::Strapped { date: _ }) => Ok(Stage::Rows),
-            (
-                _,
-                Entry::Upright {
-                    date: _,
-                    height: _,
-                    litres_per_metre: _,
-                },
-            ) => Ok(Stage::Walls),
+            (_, Entry::Strapped { .. }) => Ok(Stage::Rows),
+            (_, Entry::Upright { .. }) => Ok(Stage::Walls),
             (Stage::Rows, Entry::Row(_)) => Ok(Stage::Rows),
             (_, Entry::Row(_)) => Err(Wrong::OutOfPlace(Verb::Row)),
             (Stage::Rows | Stage::Walls, Entry::Datum(_)) => Ok(Stage::Datum),

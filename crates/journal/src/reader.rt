@@ -61,10 +61,10 @@ pub fn read_journal(heap: Global, text: &[u8]) -> Result<Vec<NumberedEntry>, Fau
     for (i, text) in text.split(|byte| *byte == b'\n').enumerate() {
         let line = i as u32 + 1;
         let (entry, next) = place_line(stage, text).map_err(|wrong| Fault::Line(line, wrong))?;
-        stage = next;
         if let Some(entry) = entry {
             entries.push(NumberedEntry { line, entry })?;
         }
+        stage = next;
     }
     Ok(entries)
 }

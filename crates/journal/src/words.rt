@@ -1,8 +1,8 @@
 //! The words of a journal line, and the numbers among them.
-ghost use Rattle.std.specs.Prelude.{◌≡◌, ℕ, ◌<◌, Bool, [], length, MatchOption};
-ghost use Rattle.std.specs.Iterator.{ActsAsAt};
+ghost use Rattle.std.specs.Prelude.{◌≡◌, ℕ, ◌+◌, Bool, length};
+ghost use Rattle.std.specs.Iterator.{ActsAsAt, at_most};
 ghost use Rattle.std.specs.List.{position_or_len};
-ghost use Rattle.journal.specs.Words.{is_blank, CutAt, before_comment, next_word, after_word, decimal};
+ghost use Rattle.journal.specs.Words.{is_blank, CutAt, before_comment, GivesNextWord, decimal};
 
 fn is_blank(byte: &u8) -> bool
     ensures { result ≡ is_blank byte.now }
@@ -13,7 +13,8 @@ fn is_blank(byte: &u8) -> bool
 /// The text before the first byte that ends it, and the rest.
 fn cut<F: FnMut(&u8) -> bool>(text: &[u8], ends: F) -> (&[u8], &[u8])
     requires { F.IsAlwaysCallable ends }
-    ensures { (p : ℕ → Bool) → ActsAsAt F.FnMut ends p → CutAt text.now (position_or_len p text.now) result.0.now result.1.now }
+    ensures parts { (p : ℕ → Bool) → ActsAsAt F.FnMut ends p → CutAt text.now (position_or_len p text.now) result.0.now result.1.now }
+    ensures all { length result.0.now + length result.1.now ≡ length text.now }
 {
     let end = text.iter().position(ends).unwrap_or(text.len());
     text.split_at(end)
@@ -32,20 +33,20 @@ impl<'a> Words<'a> {
         let (rest, _comment) = cut(line, |byte| *byte == b'#');
         Words { rest }
     }
+}
 
-    /// The next word, or none at the end of the line.
-    pub(crate) fn next(&mut self) -> Option<&'a [u8]>
-        ensures word { MatchOption result (next_word self.old.rest.now ≡ [])
-            (λ w. (w.now ≡ next_word self.old.rest.now) × (0 < length w.now)) }
-        ensures rest { self.new.rest.now ≡ after_word self.old.rest.now }
-    {
+impl<'a> Iterator for Words<'a> {
+    type Item = &'a [u8];
+
+    ghost next_gives = { λ words word after. GivesNextWord words.rest.now word after.rest.now };
+
+    ghost remaining = { λ words. at_most (length words.rest.now) };
+
+    fn next(&mut self) -> Option<&'a [u8]> {
         let (_blanks, text) = cut(self.rest, |byte| !is_blank(byte));
         let (word, rest) = cut(text, is_blank);
         self.rest = rest;
-        if word.is_empty() {
-            return None;
-        }
-        Some(word)
+        (!word.is_empty()).then_some(word)
     }
 }
 

@@ -49,25 +49,14 @@ impl fmt::Display for Wrong {
                 f,
                 "unknown kind of survey; expected strapped or upright after the date"
             ),
-            Wrong::Missing(verb) => {
-                let form = usage(verb);
-                write!(f, "a word is missing; expected {form}")
-            }
-            Wrong::Number(verb) => {
-                let form = usage(verb);
-                write!(
-                    f,
-                    "not a whole number from 0 to 4294967295; expected {form}"
-                )
-            }
-            Wrong::Extra(verb) => {
-                let form = usage(verb);
-                write!(f, "a word too many; expected {form}")
-            }
-            Wrong::OutOfPlace(verb) => {
-                let rule = place(verb);
-                write!(f, "out of place; expected that {rule}")
-            }
+            Wrong::Missing(verb) => write!(f, "a word is missing; expected {}", usage(verb)),
+            Wrong::Number(verb) => write!(
+                f,
+                "not a whole number from 0 to 4294967295; expected {}",
+                usage(verb)
+            ),
+            Wrong::Extra(verb) => write!(f, "a word too many; expected {}", usage(verb)),
+            Wrong::OutOfPlace(verb) => write!(f, "out of place; expected that {}", place(verb)),
         }
     }
 }

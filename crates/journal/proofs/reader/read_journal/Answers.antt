@@ -38,11 +38,11 @@ gathered c entries e =
     let placed : placed_line c.loop-i.stage c.in-Some.text.now ≡ Ok (c.in_ok-entry.entry, c.in_ok-entry.next) = search rules in
     rw (length-append, ← e) (one_read c.args.text.now _ c.loop-i.stage (vec_items c.loop-i.entries) c.loop-i.invariant.gathered _ _ (at_hand (goal.at.In_ok-entry c).After-place_line) _ _ placed)
 
-pub loop-i-preserved-in-Continue-branch-2 : goal.loop-i-preserved-in-Continue-branch-2
-loop-i-preserved-in-Continue-branch-2 c = record {
+pub loop-i-preserved-in_ok-push : goal.loop-i-preserved-in_ok-push
+loop-i-preserved-in_ok-push c = record {
   can_next = search rules;
   is_finite = search rules;
-  gathered = gathered (goal.at.loop-i-preserved-in-Continue-branch-2 c).In_ok-entry _ (ap (with_entry (vec_items c.loop-i.entries) (c.in-Some.i + 1)) c.in-Some-entry.is ∙ sym c.in_ok-push.ensures.items);
+  gathered = gathered (goal.at.loop-i-preserved-in_ok-push c).In_ok-entry _ (ap (with_entry (vec_items c.loop-i.entries) (c.in-Some.i + 1)) c.in-Some-entry.is ∙ sym c.in_ok-push.ensures.items);
 }
 
 pub loop-i-preserved : goal.loop-i-preserved

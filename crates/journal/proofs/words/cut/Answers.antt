@@ -7,8 +7,8 @@ use Rattle.std.proofs.lemmas.List.Sums.{prefix_len-le-length}
 use Rattle.std.specs.List.{position_or_len}
 use Rattle.journal.proofs.words.cut.Goals as goal
 
-pub returns : goal.returns
-returns g c p acts =
+pub returns-clause-parts : goal.returns-clause-parts
+returns-clause-parts g c p acts =
     let text = c.args.text.now in
     let found = position_from_yields_List p _ _ c.position.result c.position.ensures.ran (YieldsList-from_slice text c.iter.ensures.rest) (λ x b q k. acts x.now b q (called_at _ k refl)) in
     let end : c.unwrap_or-end.result ≡ position_or_len p text = grind (arith, nat_tests, found, prefix_len-le-length) in
