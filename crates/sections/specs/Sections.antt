@@ -1,5 +1,6 @@
 -- The part of a journal that belongs to one survey.
-use Rattle.std.specs.Prelude.{◌≡◌, ℕ, ◌+◌, Bool, true, false, List, [], ◌∷◌, length, Some, None, Option, slice_get}
+use Rattle.std.specs.Prelude.{◌≡◌, ℕ, ◌+◌, Bool, true, false, List, [], ◌∷◌, length, Some, None, Option, MatchOption, take, drop, slice_get}
+use Rattle.std.specs.Borrow.{Bor}
 use Rattle.std.specs.List.{position, filter_map}
 use Rattle.std.specs.Option.{unwrap_or}
 use Rattle.measure.specs.Limits.{highest_level}
@@ -10,6 +11,7 @@ use Rattle.journal.specs.declared.entry.Entry.{Entry}
 use Rattle.journal.specs.declared.entry.Entry.TheVariants.{Strapped, Upright, Row, Datum, Limit, Dip}
 use Rattle.journal.specs.declared.reader.NumberedEntry.{NumberedEntry}
 use Rattle.sections.specs.declared.DatedSurvey.{DatedSurvey}
+use Rattle.sections.specs.declared.Sections.{Sections}
 
 -- ---- how far a section goes
 
@@ -29,6 +31,14 @@ entries_under entries = unwrap_or (position (λ e. begins_survey e.entry) entrie
 abbrev pub section_length : List NumberedEntry → ℕ
 section_length [] = 0
 section_length (e ∷ es) = 1 + entries_under es
+
+-- the entries whose sections are still to come
+abbrev pub entries_left : Sections → List NumberedEntry
+entries_left sections = sections.rest.now
+
+-- taking the next section of these entries gives this one, or none, and leaves these
+abbrev pub GivesSection : List NumberedEntry → Option (Bor (List NumberedEntry)) → List NumberedEntry → Type 0
+GivesSection entries section rest = MatchOption section (entries ≡ []) (λ s. s.now ≡ take (section_length entries) entries) × (rest ≡ drop (section_length entries) entries)
 
 -- ---- its rows
 

@@ -2,9 +2,10 @@
 #![tactic(auto)]
 
 ghost use Rattle.std.specs.Prelude.{◌≡◌, ◌<◌, ◌≤◌, length, IfOk, None, MatchOption};
+ghost use Rattle.std.specs.Iterator.{at_most};
 ghost use Rattle.std.specs.Option.{unwrap_or};
 ghost use Rattle.measure.specs.Limits.{highest_level};
-ghost use Rattle.sections.specs.Sections.{begins_survey, entries_under, section_length, row_of, rows_in, datum_of, limit_of, first_height, section_date, SurveyOf};
+ghost use Rattle.sections.specs.Sections.{begins_survey, entries_under, section_length, entries_left, GivesSection, row_of, rows_in, datum_of, limit_of, first_height, section_date, SurveyOf};
 
 use capacity::row::Row;
 use journal::entry::Entry;
@@ -29,6 +30,34 @@ pub fn section_length(entries: &[NumberedEntry]) -> usize
     match entries.split_first() {
         Some((_survey, rest)) => 1 + under_survey(rest),
         None => 0,
+    }
+}
+
+/// The sections of a journal, one after the other.
+#[derive(Drop)]
+pub struct Sections<'a> {
+    rest: &'a [NumberedEntry],
+}
+
+impl<'a> Sections<'a> {
+    pub fn of(entries: &'a [NumberedEntry]) -> Sections<'a>
+        ensures { entries_left result ≡ entries.now }
+    {
+        Sections { rest: entries }
+    }
+}
+
+impl<'a> Iterator for Sections<'a> {
+    type Item = &'a [NumberedEntry];
+
+    ghost next_gives = { λ sections section after. GivesSection (entries_left sections) section (entries_left after) };
+
+    ghost remaining = { λ sections. at_most (length (entries_left sections)) };
+
+    fn next(&mut self) -> Option<&'a [NumberedEntry]> {
+        let (section, rest) = self.rest.split_at(section_length(self.rest));
+        self.rest = rest;
+        (!section.is_empty()).then_some(section)
     }
 }
 
