@@ -4,11 +4,11 @@ use journal::reader::NumberedEntry;
 use measure::limits::HIGHEST_LEVEL;
 use measure::refusal::Refusal;
 use measure::tenths::Tenths;
-use sections::{rows_of, section_length, survey_of};
+use sections::{DatedSurvey, Sections, rows_of, survey_of};
 use std::alloc::Global;
 use std::io;
 use std::io::Write;
-use survey::tank::{Shape, Survey, SurveyedTank};
+use survey::tank::{Shape, SurveyedTank};
 
 /// How answers are written: for other programs, or for people.
 #[derive(Clone, Copy, PartialEq, Eq)]
@@ -17,113 +17,103 @@ pub enum Style {
     Plain,
 }
 
-pub(crate) fn write_charts<W: Write>(
-    heap: Global,
-    out: &mut W,
-    entries: &[NumberedEntry],
-    style: Style,
-) -> io::Result<()> {
-    let mut rest = entries;
-    while !rest.is_empty() {
-        let (section, following) = rest.split_at(section_length(rest));
-        write_chart(heap, out, section, style)?;
-        rest = following;
-    }
-    Ok(())
+/// The dip chart, as it is written out.
+#[derive(Drop)]
+pub(crate) struct Chart<W> {
+    pub(crate) heap: Global,
+    pub(crate) out: W,
+    pub(crate) style: Style,
 }
 
-/// The chart of one survey and the dips under it.
-fn write_chart<W: Write>(
-    heap: Global,
-    out: &mut W,
-    section: &[NumberedEntry],
-    style: Style,
-) -> io::Result<()> {
-    let rows = rows_of(heap, section)?;
-    let Some(dated) = survey_of(section, rows.as_slice()) else {
-        return Ok(());
-    };
-    let tank = SurveyedTank::of(&dated.survey);
-    if style == Style::Plain {
-        write_heading(out, dated.date, &dated.survey, &tank)?;
-    }
-    for numbered in section {
-        if let Entry::Dip(height) = numbered.entry {
-            write_dip(out, numbered.line, height, tank.dip(height), style)?;
+impl<W: Write> Chart<W> {
+    pub(crate) fn write(&mut self, entries: &[NumberedEntry]) -> io::Result<()> {
+        for section in Sections::of(entries) {
+            self.write_section(section)?;
         }
+        Ok(())
     }
-    Ok(())
-}
 
-/// What was surveyed, and what the table of it covers.
-fn write_heading<W: Write>(
-    out: &mut W,
-    date: u32,
-    survey: &Survey,
-    tank: &SurveyedTank,
-) -> io::Result<()> {
-    match survey.shape {
-        Shape::Strapped(rows) => {
-            let count = rows.len();
-            write!(out, "Survey {date}, strapped, rows: {count}")?;
+    /// One survey and the dips under it.
+    fn write_section(&mut self, section: &[NumberedEntry]) -> io::Result<()> {
+        let rows = rows_of(self.heap, section)?;
+        let Some(dated) = survey_of(section, rows.as_slice()) else {
+            return Ok(());
+        };
+        let tank = SurveyedTank::of(&dated.survey);
+        if self.style == Style::Plain {
+            self.write_heading(&dated, &tank)?;
         }
-        Shape::Upright {
-            height,
-            litres_per_metre,
-        } => {
-            let height = Tenths::from(height);
+        for numbered in section {
+            if let Entry::Dip(height) = numbered.entry {
+                self.write_dip(numbered.line, height, tank.dip(height))?;
+            }
+        }
+        Ok(())
+    }
+
+    /// What was surveyed, and what the table of it covers.
+    fn write_heading(&mut self, dated: &DatedSurvey, tank: &SurveyedTank) -> io::Result<()> {
+        let DatedSurvey { date, survey } = *dated;
+        match survey.shape {
+            Shape::Strapped(rows) => {
+                write!(self.out, "Survey {date}, strapped, rows: {}", rows.len())?;
+            }
+            Shape::Upright {
+                height,
+                litres_per_metre,
+            } => write!(
+                self.out,
+                "Survey {date}, upright, {} mm high, {litres_per_metre} litres to the metre",
+                Tenths::from(height)
+            )?,
+        }
+        if survey.datum > 0 {
             write!(
-                out,
-                "Survey {date}, upright, {height} mm high, {litres_per_metre} litres to the metre"
+                self.out,
+                ", datum raised by {} mm",
+                Tenths::from(survey.datum)
             )?;
         }
-    }
-    if survey.datum > 0 {
-        let datum = Tenths::from(survey.datum);
-        write!(out, ", datum raised by {datum} mm")?;
-    }
-    if survey.limit < HIGHEST_LEVEL {
-        let limit = Tenths::from(survey.limit);
-        write!(out, ", filled up to {limit} mm")?;
-    }
-    let reach = tank.reach();
-    if let Some(refusal) = tank.refused() {
-        writeln!(out, "\n  no table: {refusal}")
-    } else if reach == 0 {
-        writeln!(out, "\n  covers no height")
-    } else {
-        let highest = Tenths::from(reach - 1);
-        writeln!(out, "\n  covers 0.0 mm to {highest} mm")
-    }
-}
-
-fn write_dip<W: Write>(
-    out: &mut W,
-    line: u32,
-    height: u32,
-    answer: Result<u64, Refusal>,
-    style: Style,
-) -> io::Result<()> {
-    let millimetres = Tenths::from(height);
-    match (style, answer) {
-        (Style::Raw, Ok(tenths)) => writeln!(out, "{line} dip height={height} tenths={tenths}"),
-        (Style::Raw, Err(refusal)) => {
-            let layer = refusal.layer;
-            let number = refusal.number;
-            let place = refusal.place;
-            writeln!(out, "{line} refused {layer} {number} {place}")
+        if survey.limit < HIGHEST_LEVEL {
+            write!(self.out, ", filled up to {} mm", Tenths::from(survey.limit))?;
         }
-        (Style::Plain, Ok(tenths)) => {
-            let whole = tenths / 10;
-            let tenth = tenths % 10;
+        let reach = tank.reach();
+        if let Some(refusal) = tank.refused() {
+            writeln!(self.out, "\n  no table: {refusal}")
+        } else if reach == 0 {
+            writeln!(self.out, "\n  covers no height")
+        } else {
             writeln!(
-                out,
-                "  line {line}: {millimetres} mm holds {whole}.{tenth} litres"
+                self.out,
+                "\n  covers 0.0 mm to {} mm",
+                Tenths::from(reach - 1)
             )
         }
-        (Style::Plain, Err(refusal)) => writeln!(
-            out,
-            "  line {line}: {millimetres} mm refused: {refusal}"
-        ),
+    }
+
+    fn write_dip(
+        &mut self,
+        line: u32,
+        height: u32,
+        answer: Result<u64, Refusal>,
+    ) -> io::Result<()> {
+        let millimetres = Tenths::from(height);
+        match (self.style, answer) {
+            (Style::Raw, Ok(tenths)) => {
+                writeln!(self.out, "{line} dip height={height} tenths={tenths}")
+            }
+            (Style::Raw, Err(refusal)) => {
+                writeln!(self.out, "{line} refused {}", refusal.numbers())
+            }
+            (Style::Plain, Ok(tenths)) => writeln!(
+                self.out,
+                "  line {line}: {millimetres} mm holds {} litres",
+                Tenths::from(tenths)
+            ),
+            (Style::Plain, Err(refusal)) => writeln!(
+                self.out,
+                "  line {line}: {millimetres} mm refused: {refusal}"
+            ),
+        }
     }
 }

@@ -1,5 +1,7 @@
 //! What the program is asked on its command line.
-use std::{env, io};
+use crate::chart::Style;
+use std::io::Read;
+use std::{env, fmt, fs, io};
 
 pub const HELP: &str = "depot: litres from a tank's survey
 
@@ -25,28 +27,80 @@ Heights are whole tenths of a millimetre, litres are whole litres.
 #[derive(Drop)]
 pub enum Request {
     Help,
-    UnknownOption(String),
-    SecondFile(String),
-    Run { raw: bool, file: Option<String> },
+    Answers { style: Style, source: Source },
 }
 
-pub(crate) fn read_arguments(rt: &HostRuntime) -> io::Result<Request> {
-    let mut raw = false;
-    let mut file = None;
-    for word in env::args(rt)?.skip(1) {
-        match word.as_str() {
-            "--help" => return Ok(Request::Help),
-            "--raw" => raw = true,
-            text => {
-                if text.starts_with('-') {
-                    return Ok(Request::UnknownOption(word));
-                }
-                if file.is_some() {
-                    return Ok(Request::SecondFile(word));
-                }
-                file = Some(word);
+/// Where a journal comes from.
+#[derive(Drop)]
+pub enum Source {
+    File(String),
+    StandardInput,
+}
+
+impl Source {
+    pub(crate) fn read(&self, rt: &HostRuntime) -> io::Result<Vec<u8>> {
+        match self {
+            Source::File(path) => fs::read(rt, path.as_str()),
+            Source::StandardInput => {
+                let mut text = Vec::new(rt.alloc());
+                rt.stdin().read_to_end(&mut text)?;
+                Ok(text)
             }
         }
     }
-    Ok(Request::Run { raw, file })
+}
+
+impl fmt::Display for Source {
+    fn fmt<W: fmt::Write>(&self, f: &mut fmt::Formatter<W>) -> fmt::Result {
+        match self {
+            Source::File(path) => write!(f, "{path}"),
+            Source::StandardInput => write!(f, "standard input"),
+        }
+    }
+}
+
+/// Why a command line is not understood.
+#[derive(Drop)]
+pub enum Misuse {
+    UnknownOption(String),
+    SecondFile(String),
+    Unreadable(io::Error),
+}
+
+impl From<io::Error> for Misuse {
+    fn from(e: io::Error) -> Misuse {
+        Misuse::Unreadable(e)
+    }
+}
+
+impl fmt::Display for Misuse {
+    fn fmt<W: fmt::Write>(&self, f: &mut fmt::Formatter<W>) -> fmt::Result {
+        match self {
+            Misuse::UnknownOption(word) => {
+                write!(f, "unknown option {word}; depot --help explains")
+            }
+            Misuse::SecondFile(word) => write!(
+                f,
+                "one journal at a time, {word} is a second one; depot --help explains"
+            ),
+            Misuse::Unreadable(e) => write!(f, "the command line cannot be read: {e}"),
+        }
+    }
+}
+
+pub(crate) fn read_arguments(rt: &HostRuntime) -> Result<Request, Misuse> {
+    let mut style = Style::Plain;
+    let mut source = Source::StandardInput;
+    for word in env::args(rt)?.skip(1) {
+        match word.as_str() {
+            "--help" => return Ok(Request::Help),
+            "--raw" => style = Style::Raw,
+            text if text.starts_with('-') => return Err(Misuse::UnknownOption(word)),
+            _ => match source {
+                Source::File(_) => return Err(Misuse::SecondFile(word)),
+                Source::StandardInput => source = Source::File(word),
+            },
+        }
+    }
+    Ok(Request::Answers { style, source })
 }
