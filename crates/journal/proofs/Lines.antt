@@ -54,23 +54,18 @@ cut_line text n i line next =
     let lines = lines_of text in
     let within : n < length lines = omega (arith, next.0, length-enumerate_from 0 lines) in
     let is = next.1 ∙ get_or-enumerate_from 0 lines n (i, line) within in
-    let same : List (List ℕ) → List (List ℕ) = λ ls. ls in
-    let cut = at_drop_more same lines n line within in (
+    let cut = at_drop_more (λ (ls : List (List ℕ)). ls) lines n line within in (
       ap (λ (p : ℕ × List ℕ). p.0) is ∙ zero-add n,
       cut ∙ ap (λ (l : List ℕ). l ∷ drop (n + 1) lines) (sym (ap (λ (p : ℕ × List ℕ). p.1) is)),
     )
 
 one_more : (entries : List NumberedEntry) (n : ℕ) (entry : Option Entry) (rest : Result (List NumberedEntry) Fault) → after_entries entries (before n entry rest) ≡ after_entries (with_entry entries n entry) rest
 one_more entries n None rest = refl
-one_more entries n (Some entry) (Ok rest) =
-    let told : List NumberedEntry → Result (List NumberedEntry) Fault = λ es. Ok es in
-    ap told (sym (append_assoc entries (record { line = n; entry = entry } ∷ []) rest))
+one_more entries n (Some entry) (Ok rest) = simp append_assoc
 one_more entries n (Some entry) (Err fault) = refl
 
 no_more : (entries : List NumberedEntry) → after_entries entries (Ok []) ≡ Ok entries
-no_more entries =
-    let told : List NumberedEntry → Result (List NumberedEntry) Fault = λ es. Ok es in
-    ap told (append-nil entries)
+no_more entries = simp append-nil
 
 -- a text that is not too long is read line by line
 read_lines : (text : List ℕ) → length text < 4294967295 → journal_of text ≡ entries_from 1 Start (lines_of text)

@@ -46,38 +46,38 @@ number_entry verb made text =
     and_then (numbered verb (next_word text)) (λ n. ended verb (made n) (next_word (after_word text)))
 
 -- HEIGHT LITRES
-abbrev pub row_entry : List ℕ → Result (Option Entry) Wrong
-row_entry text =
-    and_then (numbered RowVerb (next_word text)) (λ height.
-    and_then (numbered RowVerb (next_word (after_word text))) (λ litres.
-    ended RowVerb (RowEntry (record { height = height; litres = litres })) (next_word (after_word (after_word text)))))
+abbrev pub row_entry : Verb → List ℕ → Result (Option Entry) Wrong
+row_entry verb text =
+    and_then (numbered verb (next_word text)) (λ height.
+    and_then (numbered verb (next_word (after_word text))) (λ litres.
+    ended verb (RowEntry (record { height = height; litres = litres })) (next_word (after_word (after_word text)))))
 
 -- HEIGHT LITRES-PER-METRE
-abbrev pub upright_entry : ℕ → List ℕ → Result (Option Entry) Wrong
-upright_entry date text =
-    and_then (numbered Survey (next_word text)) (λ height.
-    and_then (numbered Survey (next_word (after_word text))) (λ litres_per_metre.
-    ended Survey (Upright date height litres_per_metre) (next_word (after_word (after_word text)))))
+abbrev pub upright_entry : Verb → ℕ → List ℕ → Result (Option Entry) Wrong
+upright_entry verb date text =
+    and_then (numbered verb (next_word text)) (λ height.
+    and_then (numbered verb (next_word (after_word text))) (λ litres_per_metre.
+    ended verb (Upright date height litres_per_metre) (next_word (after_word (after_word text)))))
 
-abbrev pub shape_entry : ℕ → List ℕ → List ℕ → Result (Option Entry) Wrong
-shape_entry date shape text =
-    cond (bytes_eq shape (codes "strapped")) (ended Survey (Strapped date) (next_word text))
-    (cond (bytes_eq shape (codes "upright")) (upright_entry date text) (Err UnknownShape))
+abbrev pub shape_entry : Verb → ℕ → List ℕ → List ℕ → Result (Option Entry) Wrong
+shape_entry verb date shape text =
+    cond (bytes_eq shape (codes "strapped")) (ended verb (Strapped date) (next_word text))
+    (cond (bytes_eq shape (codes "upright")) (upright_entry verb date text) (Err UnknownShape))
 
-abbrev pub shaped_survey : ℕ → List ℕ → List ℕ → Result (Option Entry) Wrong
-shaped_survey date [] text = Err (Missing Survey)
-shaped_survey date (b ∷ bs) text = shape_entry date (b ∷ bs) text
+abbrev pub shaped_survey : Verb → ℕ → List ℕ → List ℕ → Result (Option Entry) Wrong
+shaped_survey verb date [] text = Err (Missing verb)
+shaped_survey verb date (b ∷ bs) text = shape_entry verb date (b ∷ bs) text
 
 -- DATE strapped, or DATE upright HEIGHT LITRES-PER-METRE
-abbrev pub survey_entry : List ℕ → Result (Option Entry) Wrong
-survey_entry text =
-    and_then (numbered Survey (next_word text)) (λ date.
-    shaped_survey date (next_word (after_word text)) (after_word (after_word text)))
+abbrev pub survey_entry : Verb → List ℕ → Result (Option Entry) Wrong
+survey_entry verb text =
+    and_then (numbered verb (next_word text)) (λ date.
+    shaped_survey verb date (next_word (after_word text)) (after_word (after_word text)))
 
 abbrev pub verb_entry : Option Verb → List ℕ → Result (Option Entry) Wrong
 verb_entry None text = Err UnknownWord
-verb_entry (Some Survey) text = survey_entry text
-verb_entry (Some RowVerb) text = row_entry text
+verb_entry (Some Survey) text = survey_entry Survey text
+verb_entry (Some RowVerb) text = row_entry RowVerb text
 verb_entry (Some DatumVerb) text = number_entry DatumVerb Datum text
 verb_entry (Some LimitVerb) text = number_entry LimitVerb Limit text
 verb_entry (Some DipVerb) text = number_entry DipVerb Dip text

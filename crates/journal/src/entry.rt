@@ -1,6 +1,5 @@
 //! One line of a journal.
 ghost use Rattle.std.specs.Prelude.{◌≡◌, ℕ};
-ghost use Rattle.journal.specs.declared.verb.Verb.TheVariants.{Survey, Row as RowVerb};
 ghost use Rattle.journal.specs.Entries.{numbered, ended, Makes, number_entry, survey_entry, shape_entry, upright_entry, row_entry, entry_of};
 ghost use Rattle.journal.specs.Words.{next_word, after_word};
 
@@ -82,8 +81,7 @@ impl<'a> Line<'a> {
     }
 
     fn row(mut self) -> Result<Option<Entry>, Wrong>
-        requires { self.verb ≡ RowVerb }
-        ensures { result ≡ row_entry self.entry.words.rest.now }
+        ensures { result ≡ row_entry self.entry.verb self.entry.words.rest.now }
     {
         let height = self.number()?;
         let litres = self.number()?;
@@ -91,17 +89,15 @@ impl<'a> Line<'a> {
     }
 
     fn survey(mut self) -> Result<Option<Entry>, Wrong>
-        requires { self.verb ≡ Survey }
-        ensures { result ≡ survey_entry self.entry.words.rest.now }
+        ensures { result ≡ survey_entry self.entry.verb self.entry.words.rest.now }
     {
         let date = self.number()?;
-        let shape = self.words.next().ok_or(Wrong::Missing(Verb::Survey))?;
+        let shape = self.words.next().ok_or(Wrong::Missing(self.verb))?;
         self.shaped_survey(date, shape)
     }
 
     fn shaped_survey(self, date: u32, shape: &[u8]) -> Result<Option<Entry>, Wrong>
-        requires { self.verb ≡ Survey }
-        ensures { result ≡ shape_entry date shape.now self.entry.words.rest.now }
+        ensures { result ≡ shape_entry self.entry.verb date shape.now self.entry.words.rest.now }
     {
         match shape {
             b"strapped" => self.end(Entry::Strapped { date }),
@@ -111,8 +107,7 @@ impl<'a> Line<'a> {
     }
 
     fn upright(mut self, date: u32) -> Result<Option<Entry>, Wrong>
-        requires { self.verb ≡ Survey }
-        ensures { result ≡ upright_entry date self.entry.words.rest.now }
+        ensures { result ≡ upright_entry self.entry.verb date self.entry.words.rest.now }
     {
         let height = self.number()?;
         let litres_per_metre = self.number()?;
