@@ -74,7 +74,8 @@ impl<'a> Line<'a> {
     /// The entry of a number alone.
     fn number_entry<F: FnOnce(u32) -> Entry>(mut self, entry: F) -> Result<Option<Entry>, Wrong>
         requires { F.IsAlwaysCallable entry }
-        ensures { (made : ℕ → Entry) → Makes (F.post entry) made → result ≡ number_entry self.entry.verb made self.entry.words.rest.now }
+        ensures { (made : ℕ → Entry) → Makes (F.post entry) made →
+            result ≡ number_entry self.entry.verb made self.entry.words.rest.now }
     {
         let value = self.number()?;
         self.end(entry(value))

@@ -13,7 +13,8 @@ fn is_blank(byte: &u8) -> bool
 /// The text before the first byte that ends it, and the rest.
 fn cut<F: FnMut(&u8) -> bool>(text: &[u8], ends: F) -> (&[u8], &[u8])
     requires { F.IsAlwaysCallable ends }
-    ensures parts { (p : ℕ → Bool) → ActsAsAt F.FnMut ends p → CutAt text.now (position_or_len p text.now) result.0.now result.1.now }
+    ensures parts { (p : ℕ → Bool) → ActsAsAt F.FnMut ends p →
+        CutAt text.now (position_or_len p text.now) result.0.now result.1.now }
     ensures all { length result.0.now + length result.1.now ≡ length text.now }
 {
     let end = text.iter().position(ends).unwrap_or(text.len());

@@ -50,7 +50,8 @@ impl<'a> Sections<'a> {
 impl<'a> Iterator for Sections<'a> {
     type Item = &'a [NumberedEntry];
 
-    ghost next_gives = { λ sections section after. GivesSection (entries_left sections) section (entries_left after) };
+    ghost next_gives = { λ sections section after.
+        GivesSection (entries_left sections) section (entries_left after) };
 
     ghost remaining = { λ sections. at_most (length (entries_left sections)) };
 
