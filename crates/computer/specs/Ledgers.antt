@@ -34,11 +34,14 @@ abbrev pub commissioned : {G T P : Type 0} → ℕ → G → T → ℕ → P →
 commissioned tank gauge table date rule = record { tank = tank; date = date; table = table; gauge = gauge; rule = rule; elements = []; density = None; shell = 0; water = 0 }
 
 -- the density, where one was set, is one that the rule covers: it is refused otherwise
-abbrev density_covered : {P : Type 0} → RuleMeaning P → P → Option ℕ → Type 0
-density_covered m rule None = Unit {0}
-density_covered m rule (Some r) = covered m rule r ≡ true
+abbrev pub covered_density : {P : Type 0} → RuleMeaning P → P → Option ℕ → Type 0
+covered_density m rule None = Unit {0}
+covered_density m rule (Some r) = covered m rule r ≡ true
 
--- what holds of every ledger of a computer: its shell coefficient and its density were admitted
+abbrev pub DensityCovered : {G T P : Type 0} → Meanings G T P → Ledger G T P → Type 0
+DensityCovered m l = covered_density m.rule l.rule l.density
+
+-- what holds of every computer: its density and its shell coefficient were admitted
 pub record Admitted {P : Type 0} (m : RuleMeaning P) (rule : P) (density : Option ℕ) (shell : ℕ) : Type 0 where
-  pub density_is_covered : density_covered m rule density
+  pub density_is_covered : covered_density m rule density
   pub shell_is_within : shell ≤ largest_shell

@@ -1,8 +1,9 @@
 -- Histories: the ledger after a list of calls, and what a run of them answers.
-use Rattle.std.specs.Prelude.{◌≡◌, ℕ, ◌<◌, List, [], ◌∷◌, length, take, Some, None, Ok, Err, Result, slice_index_or}
+use Rattle.std.specs.Prelude.{◌≡◌, ℕ, ◌<◌, ◌≤◌, List, [], ◌∷◌, length, take, Some, None, Ok, Err, Result, slice_index_or}
 use Rattle.measure.specs.declared.refusal.Refusal.{Refusal}
 use Rattle.probe.specs.Probes.{done_unless}
-use Rattle.computer.specs.Ledgers.{Meanings, Ledger}
+use Rattle.working.specs.Limits.{largest_shell}
+use Rattle.computer.specs.Ledgers.{Meanings, Ledger, DensityCovered}
 use Rattle.computer.specs.Calls.{adopt_refusal, after_adopt, sample_refusal, after_sample, fit_refused, after_fit, element_refused, after_element, density_refused, after_density, shell_refused, after_shell, water_refused, after_water}
 use Rattle.computer.specs.Readings.{read_refusal, Carries}
 use Rattle.history.specs.declared.call.Call.{Call}
@@ -37,6 +38,11 @@ module _ {G T P : Type 0} where
   abbrev pub ledger_after : Meanings G T P → Ledger G T P → List (Call T) → Ledger G T P
   ledger_after m l [] = l
   ledger_after m l (call ∷ calls) = ledger_after m (step m l call) calls
+
+  -- in every history the density stays one that the rule covers, and the shell coefficient within its limit
+  pub record KeepsLimits (m : Meanings G T P) : Type 0 where
+    pub density : (l : Ledger G T P) (calls : List (Call T)) → DensityCovered m l → DensityCovered m (ledger_after m l calls)
+    pub shell : (l : Ledger G T P) (calls : List (Call T)) → l.shell ≤ largest_shell → (ledger_after m l calls).shell ≤ largest_shell
 
   -- ---- answers
 
