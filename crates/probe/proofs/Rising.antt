@@ -1,10 +1,6 @@
 -- The elements that count stand in the liquid as its average asks.
-use Rattle.std.proofs.Common.{◌≡◌, ℕ, ◌+◌, ◌≤◌, max, true, ◌&&◌, leb, List, [], ◌∷◌, Some, None, refl, arith}
+use Rattle.std.proofs.Common.{◌≡◌, ℕ, ◌+◌, ◌≤◌, max, true, List, [], ◌∷◌, refl, arith}
 use Rattle.std.proofs.lemmas.Bool.Decides.{nat_tests}
-use Rattle.std.proofs.lemmas.Bool.{and_parts, leb-true, cond_both}
-use Rattle.std.specs.List.{cons_option}
-use Rattle.working.specs.declared.element.CountingElement.{CountingElement}
-use Rattle.working.specs.Limits.{good_temperature}
 use Rattle.working.specs.Averages.{rising_from}
 use Rattle.probe.specs.declared.element.ElementState.{ElementState}
 use Rattle.probe.specs.declared.element.ElementState.TheVariants.{Unheard, Good, Short, Open}
@@ -13,22 +9,12 @@ use Rattle.probe.specs.Elements.{right_from, state_right}
 use Rattle.probe.specs.Counted.{counting}
 use Rattle.probe.proofs.Fitted.{right_parts}
 
-rising_made : (from level : ℕ) (e : CountingElement) (es : List CountingElement) → from ≤ e.height → e.height ≤ level → good_temperature e.hundredths ≡ true → rising_from (e.height + 1) es level ≡ true → rising_from from (e ∷ es) level ≡ true
-rising_made from level e es p q r s = grind (arith, nat_tests)
-
 -- the element at `height` and those above it, which rise from any height up to the next one or the water
 by_state : (from low height water level : ℕ) (state : ElementState) (es : List ProbeElement) → from ≤ max low water → low ≤ height → state_right state ≡ true → ((next : ℕ) → next ≤ max (height + 1) water → rising_from next (counting water level es) level ≡ true) → rising_from from (counting water level (record { height = height; state = state } ∷ es)) level ≡ true
 by_state from low height water level Unheard es h above right rest = rest from (omega arith)
 by_state from low height water level Short es h above right rest = rest from (omega arith)
 by_state from low height water level Open es h above right rest = rest from (omega arith)
-by_state from low height water level (Good t) es h above right rest =
-    let e : CountingElement = record { height = height; hundredths = t } in
-    cond_both (leb water height && leb height level) (Some e) None (λ found. rising_from from (cons_option found (counting water level es)) level ≡ true)
-    (λ inside.
-    let parts = and_parts (leb water height) (leb height level) inside in
-    let wet = leb-true water height parts.0 in
-    rising_made from level e (counting water level es) (omega arith) (leb-true height level parts.1) right (rest (height + 1) (omega arith)))
-    (λ outside. rest from (omega arith))
+by_state from low height water level (Good t) es h above right rest = grind (arith, nat_tests, rest from, rest (height + 1))
 
 -- `from` is no higher than the water, or than the lowest height of the elements
 rises_from : (from low water level : ℕ) (es : List ProbeElement) → from ≤ max low water → right_from low es ≡ true → rising_from from (counting water level es) level ≡ true

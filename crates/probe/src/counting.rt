@@ -5,7 +5,7 @@ use working::element::CountingElement;
 
 pub mod selecting;
 
-/// From the bottom up, and a word with bit n - 1 set for each element n that counts.
+/// At most sixteen, from the bottom up, and a word with bit n - 1 set for each element n that counts.
 #[derive(Clone, PartialEq, Eq, Debug, Drop)]
 pub struct Counting {
     elements: ArrayVec<CountingElement, MOST_ELEMENTS>,
