@@ -25,7 +25,7 @@ stepped c =
     let e = c.ranges.v in
     let f = fits (step_product_size v c.loop-k.p c.requires so_far) (lit< tt) in
     let value : pos unit -ℤ c.rounded_signed_quotient.result ≡ correction_step v k c.loop-k.p = ap (λ (x : ℤ). pos unit -ℤ x) (simp (to_z-of_z, same) at c.rounded_signed_quotient.ensures) in
-    record { value = value; size = rw value (step_corrected v c.loop-k.p k c.loop-k-test.true c.requires so_far) }
+    record { value = value; size = rw value (step_corrected v c.loop-k.p k (omega (arith, c.loop-k-test.true)) c.requires so_far) }
 
 pub overflow_sub-p : goal.overflow_sub-p
 overflow_sub-p c =
@@ -44,5 +44,5 @@ loop-k-preserved c =
     let same = c.loop-k.p-is in
     let left : correction_from v c.loop-k.k p ≡ correction v = simp (to_z-of_z, same) at c.loop-k.invariant.0 in
     let fewer : correction_from v (c.loop-k.k - 1) (pos unit -ℤ c.rounded_signed_quotient.result) ≡ correction v =
-    rw s.value (sym (step_first v p c.loop-k.k c.loop-k-test.true) ∙ left) in
+    rw s.value (sym (step_first v p c.loop-k.k (omega (arith, c.loop-k-test.true))) ∙ left) in
     (simp to_z-of_z fewer, simp to_z-of_z size)
