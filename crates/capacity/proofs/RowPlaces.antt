@@ -92,6 +92,11 @@ around_above first above h place i s parted at inside =
     let top = last_is_reach first above in
     let up = climb_above 1 first above (suc i) (length above) f.above (omega arith) (omega arith) in
     record {
+      place = i;
+      inside = omega arith;
+      low_is = refl;
+      high_is = simp unary_clauses refl;
+      first = λ k above_bottom l. lower k (omega arith);
       covered = omega arith;
       spans = record {
         rises = rises_above 1 first above i f.above inside;

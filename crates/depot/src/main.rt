@@ -64,10 +64,9 @@ fn answer(rt: &HostRuntime, source: Source, style: Style) -> Result<(), Failure>
         Ok(text) => text,
         Err(e) => return Err(Failure::Unreadable(source, e)),
     };
-    let entries = match read_journal(rt.alloc(), text.as_slice()) {
-        Ok(entries) => entries,
-        Err(fault) => return Err(Failure::Refused(source, fault)),
-    };
+    let entries = read_journal(rt.alloc(), text.as_slice()).map_err(|fault| Failure::Refused(
+        source, fault,
+    ))?;
     write_answers(rt, entries.as_slice(), style).map_err(Failure::Unwritten)
 }
 

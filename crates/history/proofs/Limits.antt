@@ -6,7 +6,7 @@ use Rattle.measure.specs.declared.refusal.Cause.TheVariants.{ShellLimit}
 use Rattle.probe.specs.Probes.{unless_refused}
 use Rattle.product.specs.Rules.{answered, covered}
 use Rattle.working.specs.Limits.{largest_shell}
-use Rattle.computer.specs.Ledgers.{Meanings, Ledger, DensityCovered}
+use Rattle.computer.specs.Ledgers.{Meanings, Ledger, covered_density, DensityCovered}
 use Rattle.computer.specs.Calls.{refused_if, refusal_in, adopt_refusal, sample_refusal, density_refused, shell_refused, water_refused}
 use Rattle.computer.proofs.Observed.{rule_told}
 use Rattle.history.specs.declared.call.Call.{Call}
@@ -27,36 +27,37 @@ module _ {G T P : Type 0} (m : Meanings G T P) where
   served_density l r (Ok n) e none = (rule_told m.rule l.rule r n e).within
   served_density l r (Err fault) e none = absurd cc
 
-  pub density_kept : (l : Ledger G T P) (call : Call T) → DensityCovered m l → DensityCovered m (step m l call)
-  density_kept l (Adopt survey) h = kept (DensityCovered m) (adopt_refusal m l survey.table survey.date) l _ h (λ _. h)
-  density_kept l (Sample sample) h = kept (DensityCovered m) (sample_refusal sample) l _ h (λ _. h)
-  density_kept l (Water height) h = kept (DensityCovered m) (water_refused height) l _ h (λ _. h)
-  density_kept l (Fit height) h = h
-  density_kept l (Element number hundredths) h = h
-  density_kept l (Density density) h = kept (DensityCovered m) (density_refused m l density) l _ h (λ none. served_density l density (answered m.rule l.rule density) refl none)
-  density_kept l (Shell shell) h = kept (DensityCovered m) (shell_refused shell) l _ h (λ _. h)
-  density_kept l (Read method) h = h
+  -- what speaks of the rule, the density and the shell coefficient alone stays, where a density and a shell coefficient
+  -- that are not refused keep it
+  module _ (Holds : P → Option ℕ → ℕ → Type 0)
+      (density : (l : Ledger G T P) (r : ℕ) → density_refused m l r ≡ None → Holds l.rule l.density l.shell → Holds l.rule (Some r) l.shell)
+      (shell : (l : Ledger G T P) (s : ℕ) → shell_refused s ≡ None → Holds l.rule l.density l.shell → Holds l.rule l.density s) where
+    abbrev of : Ledger G T P → Type 0
+    of l = Holds l.rule l.density l.shell
 
-  abbrev within : Ledger G T P → Type 0
-  within l = l.shell ≤ largest_shell
+    after_call : (l : Ledger G T P) (call : Call T) → of l → of (step m l call)
+    after_call l (Adopt survey) h = kept of (adopt_refusal m l survey.table survey.date) l _ h (λ _. h)
+    after_call l (Sample sample) h = kept of (sample_refusal sample) l _ h (λ _. h)
+    after_call l (Water height) h = kept of (water_refused height) l _ h (λ _. h)
+    after_call l (Fit height) h = h
+    after_call l (Element number hundredths) h = h
+    after_call l (Density r) h = kept of (density_refused m l r) l _ h (λ none. density l r none h)
+    after_call l (Shell s) h = kept of (shell_refused s) l _ h (λ none. shell l s none h)
+    after_call l (Read method) h = h
 
-  shell_kept : (l : Ledger G T P) (call : Call T) → within l → within (step m l call)
-  shell_kept l (Adopt survey) h = kept within (adopt_refusal m l survey.table survey.date) l _ h (λ _. h)
-  shell_kept l (Sample sample) h = kept within (sample_refusal sample) l _ h (λ _. h)
-  shell_kept l (Water height) h = kept within (water_refused height) l _ h (λ _. h)
-  shell_kept l (Fit height) h = h
-  shell_kept l (Element number hundredths) h = h
-  shell_kept l (Density density) h = kept within (density_refused m l density) l _ h (λ _. h)
-  shell_kept l (Shell shell) h = kept within (shell_refused shell) l _ h (λ none. served_shell shell (nat_lt largest_shell shell) refl none)
-  shell_kept l (Read method) h = h
+    stays : (l : Ledger G T P) (calls : List (Call T)) → of l → of (ledger_after m l calls)
+    stays l [] h = h
+    stays l (call ∷ calls) h = stays (step m l call) calls (after_call l call h)
 
   density_stays : (l : Ledger G T P) (calls : List (Call T)) → DensityCovered m l → DensityCovered m (ledger_after m l calls)
-  density_stays l [] h = h
-  density_stays l (call ∷ calls) h = density_stays (step m l call) calls (density_kept l call h)
+  density_stays = stays (λ rule d _. covered_density m.rule rule d)
+      (λ l r none _. served_density l r (answered m.rule l.rule r) refl none) (λ l s none h. h)
 
-  shell_stays : (l : Ledger G T P) (calls : List (Call T)) → within l → within (ledger_after m l calls)
-  shell_stays l [] h = h
-  shell_stays l (call ∷ calls) h = shell_stays (step m l call) calls (shell_kept l call h)
+  pub density_kept : (l : Ledger G T P) (call : Call T) → DensityCovered m l → DensityCovered m (step m l call)
+  density_kept l call = density_stays l (call ∷ [])
 
   pub keeps_limits : KeepsLimits m
-  keeps_limits = record { density = density_stays; shell = shell_stays }
+  keeps_limits = record {
+    density = density_stays;
+    shell = stays (λ _ _ s. s ≤ largest_shell) (λ l r none h. h) (λ l s none _. served_shell s (nat_lt largest_shell s) refl none);
+  }

@@ -1,4 +1,4 @@
--- What every history keeps, and the answers of a run by their places.
+-- The answers of a run, one by one and by their places.
 use Rattle.std.proofs.Common.{◌≡◌, ℕ, zero, suc, ◌<◌, List, [], ◌∷◌, ◌++◌, length, get_or, take, sym, refl, ap, ◌∙◌, subst, append_assoc, append-nil, not-suc-le-zero, arith}
 use Rattle.computer.specs.Ledgers.{Meanings, Ledger}
 use Rattle.history.specs.declared.call.Call.{Call}

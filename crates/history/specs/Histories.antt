@@ -15,7 +15,7 @@ use Rattle.history.specs.declared.call.Outcome.TheVariants.{Done, Reading as Rea
 abbrev pub Answer : Type 0
 Answer = Result Outcome Refusal
 
--- what a call answers of which we know whether it was served
+-- what a call answers that only changes the computer: it is done, or refused
 abbrev pub as_answer : Result (Unit {0}) Refusal → Answer
 as_answer (Ok done) = Ok Done
 as_answer (Err e) = Err e

@@ -10,8 +10,8 @@ pub enum Call<T> {
     Sample(Sample),
     Water(u32),
     Fit(u32),
-    /// The element's number, from 1, and its temperature in hundredths of a °C.
-    Element(u32, i32),
+    /// The element's number counts from 1.
+    Element { number: u32, hundredths: i32 },
     Density(u32),
     Shell(u32),
     /// By a method of mass.

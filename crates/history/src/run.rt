@@ -28,7 +28,7 @@ pub fn serve<G: Gauge, T: CapacityTable + Drop, P: ProductRule>(
         Call::Sample(sample) => computer.sample(sample)?,
         Call::Water(height) => computer.water(height)?,
         Call::Fit(height) => computer.fit(height)?,
-        Call::Element(number, hundredths) => computer.element(number, hundredths)?,
+        Call::Element { number, hundredths } => computer.element(number, hundredths)?,
         Call::Density(density) => computer.density(density)?,
         Call::Shell(shell) => computer.shell(shell)?,
         Call::Read(method) => return Ok(Outcome::Reading(computer.read(method)?)),

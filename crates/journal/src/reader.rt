@@ -58,9 +58,9 @@ pub fn read_journal(heap: Global, text: &[u8]) -> Result<Vec<NumberedEntry>, Fau
     }
     let mut entries = Vec::new(heap);
     let mut stage = Stage::Start;
-    for (i, text) in text.split(|byte| *byte == b'\n').enumerate() {
+    for (i, bytes) in text.split(|byte| *byte == b'\n').enumerate() {
         let line = i as u32 + 1;
-        let (entry, next) = place_line(stage, text).map_err(|wrong| Fault::Line(line, wrong))?;
+        let (entry, next) = place_line(stage, bytes).map_err(|wrong| Fault::Line(line, wrong))?;
         if let Some(entry) = entry {
             entries.push(NumberedEntry { line, entry })?;
         }

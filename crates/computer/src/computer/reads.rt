@@ -25,9 +25,7 @@ impl<G: Gauge, T: CapacityTable, P: ProductRule> TankComputer<G, T, P> {
         let water = self.water;
         let method = Method::try_from(method)?;
         let level = self.gauge.tell()?;
-        let Some(density) = self.density else {
-            return Err(Cause::DensityUnset.at(0));
-        };
+        let density = self.density.ok_or_else(|| Cause::DensityUnset.at(0))?;
         let at_level = self.survey.table.tenths(level)?;
         if water >= level {
             return Err(Cause::WaterAtLevel.at(i64::from(water)));

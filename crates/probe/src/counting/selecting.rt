@@ -2,7 +2,7 @@
 ghost use Rattle.std.specs.Prelude.{◌≡◌, ◌≤◌, length, count_ones};
 ghost use Rattle.probe.specs.Counted.{counting, counting_word, chosen};
 ghost use Rattle.probe.specs.CountingLaws.{CountingLaws};
-ghost use Rattle.probe.specs.Probes.{fitted_in};
+ghost use Rattle.probe.specs.Probes.{most_elements, fitted_in};
 
 use super::super::element::ProbeElement;
 use super::super::probe::Probe;
@@ -21,7 +21,7 @@ impl Probe {
 }
 
 fn counting_among(elements: &[ProbeElement], water: u32, level: u32) -> Counting
-    requires { length elements.now ≤ 16 }
+    requires { length elements.now ≤ most_elements }
     ensures elements { chosen result ≡ counting water level elements.now }
     ensures word { result.word ≡ counting_word water level elements.now }
 {

@@ -1,7 +1,7 @@
 //! Fitting elements, and giving one of them a temperature.
 ghost use Rattle.std.specs.Prelude.{◌≡◌, ◌≤◌, [], length};
 ghost use Rattle.probe.specs.Elements.{lowest_free};
-ghost use Rattle.probe.specs.Probes.{fitted_in, fit_refusal, hear_refusal, after_fit, after_hearing, done_unless};
+ghost use Rattle.probe.specs.Probes.{most_elements, fitted_in, fit_refusal, hear_refusal, after_fit, after_hearing, done_unless};
 
 use super::super::element::{ElementState, ProbeElement};
 use super::{Entries, MOST_ELEMENTS, Probe};
@@ -29,7 +29,7 @@ impl Probe {
     /// The elements that are fitted, from the bottom up.
     pub fn elements(&self) -> &[ProbeElement]
         ensures value { result.now ≡ fitted_in self.now }
-        ensures few { length result.now ≤ 16 }
+        ensures few { length result.now ≤ most_elements }
     {
         &self.entries.list[..self.fitted]
     }

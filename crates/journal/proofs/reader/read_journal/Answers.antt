@@ -20,8 +20,8 @@ given c =
     c.enumerate-i-items.ensures.count))
     c.loop-i.yielded _ c.loop-i.yielded_by c.next.result c.next.new.self c.next.ensures.steps
 
-at_hand : (c : After-place_line) → IsNextLine c.args.text.now (length c.loop-i.yielded) c.in-Some.i c.in-Some.text.now
-at_hand c = MatchOption-at_some _ _ (c.in-Some.i, c.in-Some.text) c.in-Some.is (given (goal.at.After-place_line c).After-next)
+at_hand : (c : After-place_line) → IsNextLine c.args.text.now (length c.loop-i.yielded) c.in-Some.i c.in-Some.bytes.now
+at_hand c = MatchOption-at_some _ _ (c.in-Some.i, c.in-Some.bytes) c.in-Some.is (given (goal.at.After-place_line c).After-next)
 
 pub returns-in_err-entry : goal.returns-in_err-entry
 returns-in_err-entry c =
@@ -33,9 +33,9 @@ returns-in_err-entry c =
 
 -- the line at hand is read, and adds its entry to those that were gathered
 gathered : (c : In_ok-entry) (entries : List NumberedEntry) → with_entry (vec_items c.loop-i.entries) (c.in-Some.i + 1) c.in_ok-entry.entry ≡ entries
-    → Gathered c.args.text.now (length (c.loop-i.yielded ++ (c.in-Some.i, c.in-Some.text) ∷ [])) c.in_ok-entry.next entries
+    → Gathered c.args.text.now (length (c.loop-i.yielded ++ (c.in-Some.i, c.in-Some.bytes) ∷ [])) c.in_ok-entry.next entries
 gathered c entries e =
-    let placed : placed_line c.loop-i.stage c.in-Some.text.now ≡ Ok (c.in_ok-entry.entry, c.in_ok-entry.next) = search rules in
+    let placed : placed_line c.loop-i.stage c.in-Some.bytes.now ≡ Ok (c.in_ok-entry.entry, c.in_ok-entry.next) = search rules in
     rw (length-append, ← e) (one_read c.args.text.now _ c.loop-i.stage (vec_items c.loop-i.entries) c.loop-i.invariant.gathered _ _ (at_hand (goal.at.In_ok-entry c).After-place_line) _ _ placed)
 
 pub loop-i-preserved-in_ok-push : goal.loop-i-preserved-in_ok-push

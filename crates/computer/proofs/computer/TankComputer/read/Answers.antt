@@ -36,7 +36,7 @@ invariant_of-observation g c =
     let at_level = sym c.in_ok-at_level.ensures in
     let at_water = sym c.in_ok-at_water.ensures in
     let dry : held.water ≤ level = omega (arith, c.if-water-level.false) in
-    let rule = rule_limits g.P.ProductRule.meaning held.rule c.in-Some.density c.in_ok-coefficient.coefficient (sym c.in_ok-coefficient.ensures) in
+    let rule = rule_limits g.P.ProductRule.meaning held.rule c.in_ok-density.density c.in_ok-coefficient.coefficient (sym c.in_ok-coefficient.ensures) in
     record {
       limits = (
         (laws.most held.survey.table level a at_level, laws.never_falls held.survey.table held.water level b a dry at_water at_level),
