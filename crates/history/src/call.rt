@@ -10,7 +10,7 @@ pub enum Call<T> {
     Sample(Sample),
     Water(u32),
     Fit(u32),
-    /// The element's number counts from 1.
+    /// The element's number, from 1, and its temperature in hundredths of a °C.
     Element { number: u32, hundredths: i32 },
     Density(u32),
     Shell(u32),
