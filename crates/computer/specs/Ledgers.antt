@@ -1,10 +1,12 @@
 -- The ledger of a tank computer: what it knows, kept from what commissioning was given and the calls alone.
-use Rattle.std.specs.Prelude.{◌≡◌, ℕ, ◌≤◌, true, List, [], Some, None, Option}
+use Rattle.std.specs.Prelude.{◌≡◌, ℕ, ◌≤◌, true, List, [], length, Some, None, Option}
 use Rattle.capacity.specs.Tables.{TableMeaning}
 use Rattle.gauge.specs.Gauges.{GaugeMeaning}
 use Rattle.product.specs.Rules.{RuleMeaning, covered}
 use Rattle.working.specs.Limits.{largest_shell}
 use Rattle.probe.specs.declared.element.ProbeElement.{ProbeElement}
+use Rattle.probe.specs.Elements.{right_from}
+use Rattle.probe.specs.Probes.{most_elements}
 
 -- what the gauge, the capacity table and the product rule of a computer mean
 pub record Meanings (G T P : Type 0) : Type 0 where
@@ -41,7 +43,13 @@ covered_density m rule (Some r) = covered m rule r ≡ true
 abbrev pub DensityCovered : {G T P : Type 0} → Meanings G T P → Ledger G T P → Type 0
 DensityCovered m l = covered_density m.rule l.rule l.density
 
--- what holds of every computer: its density and its shell coefficient were admitted
-pub record Admitted {P : Type 0} (m : RuleMeaning P) (rule : P) (density : Option ℕ) (shell : ℕ) : Type 0 where
+-- what holds of every computer: its density and its shell coefficient were admitted, and so was each element of its
+-- probe, which are sixteen at most
+pub record Admitted {P : Type 0} (m : RuleMeaning P) (rule : P) (density : Option ℕ) (shell : ℕ) (elements : List ProbeElement) : Type 0 where
   pub density_is_covered : covered_density m rule density
   pub shell_is_within : shell ≤ largest_shell
+  pub elements_are_few : length elements ≤ most_elements
+  pub elements_stand : right_from 0 elements ≡ true
+
+abbrev pub LedgerAdmitted : {G T P : Type 0} → RuleMeaning P → Ledger G T P → Type 0
+LedgerAdmitted m l = Admitted m l.rule l.density l.shell l.elements

@@ -7,6 +7,7 @@ use product::rule::ProductRule;
 use std::marker::Model;
 
 pub mod calls;
+pub mod limits;
 pub mod reads;
 
 /// Generic in its gauge, its capacity table and its product rule.
@@ -46,5 +47,5 @@ impl<G: Gauge, T: CapacityTable, P: ProductRule> Model for TankComputer<G, T, P>
 
     ghost use Rattle.computer.specs.Ledgers.{Admitted};
 
-    ghost invariant = { λ c. Admitted P.ProductRule.meaning c.rule c.density c.shell };
+    ghost invariant = { λ c. Admitted P.ProductRule.meaning c.rule c.density c.shell (fitted_in c.probe) };
 }

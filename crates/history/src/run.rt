@@ -1,6 +1,6 @@
 //! A whole history: a computer is commissioned, and every call is made.
 ghost use Rattle.std.specs.Prelude.{◌≡◌, IfOk};
-ghost use Rattle.computer.specs.Ledgers.{meanings, commissioned};
+ghost use Rattle.computer.specs.Ledgers.{meanings, commissioned, LedgerAdmitted};
 ghost use Rattle.history.specs.Histories.{step, AnswerOf, Answered, Ran};
 
 use super::call::{Answer, Call, Outcome};
@@ -22,6 +22,7 @@ pub fn serve<G: Gauge, T: CapacityTable + Drop, P: ProductRule>(
     ensures after { computer.new ≡ step
         (meanings G.Gauge.meaning T.CapacityTable.meaning P.ProductRule.meaning)
         computer.old call }
+    ensures admitted { LedgerAdmitted P.ProductRule.meaning computer.new }
 {
     match call {
         Call::Adopt(survey) => computer.adopt(survey)?,

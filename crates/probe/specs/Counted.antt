@@ -1,5 +1,5 @@
 -- The elements that count from the water up to the level, and the word that names them.
-use Rattle.std.specs.Prelude.{ℕ, ◌+◌, ◌*◌, List, [], ◌∷◌, Some, None, Option}
+use Rattle.std.specs.Prelude.{ℕ, ◌+◌, ◌*◌, List, [], ◌∷◌, take, Some, None, Option}
 use Rattle.std.specs.List.{filter_map}
 use Rattle.working.specs.declared.element.CountingElement.{CountingElement}
 use Rattle.probe.specs.declared.element.ProbeElement.{ProbeElement}
@@ -7,7 +7,7 @@ use Rattle.probe.specs.declared.counting.Counting.{Counting}
 use Rattle.probe.specs.Elements.{counted}
 
 abbrev pub chosen : Counting → List CountingElement
-chosen c = c.elements.items
+chosen c = take c.count c.list
 
 -- those that count, from the bottom up
 abbrev pub counting : ℕ → ℕ → List ProbeElement → List CountingElement

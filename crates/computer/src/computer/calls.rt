@@ -1,7 +1,7 @@
 //! Commissioning, and the calls that change a tank computer. A refused call changes nothing.
 ghost use Rattle.std.specs.Prelude.{◌≡◌};
 ghost use Rattle.probe.specs.Probes.{done_unless};
-ghost use Rattle.computer.specs.Ledgers.{meanings, commissioned};
+ghost use Rattle.computer.specs.Ledgers.{meanings, commissioned, LedgerAdmitted};
 ghost use Rattle.computer.specs.Calls.{adopt_refusal, after_adopt, sample_refusal, after_sample, fit_refused, after_fit, element_refused, after_element, density_refused, after_density, shell_refused, after_shell, water_refused, after_water};
 
 use super::super::dated_table::DatedTable;
@@ -19,7 +19,8 @@ const LARGEST_SHELL: u32 = 300;
 impl<G: Gauge, T: CapacityTable, P: ProductRule> TankComputer<G, T, P> {
     /// Water and shell coefficient are 0, the density is unset, no element is fitted.
     pub fn commission(tank: u32, gauge: G, survey: DatedTable<T>, rule: P) -> TankComputer<G, T, P>
-        ensures { result ≡ commissioned tank gauge survey.table survey.date rule }
+        ensures ledger { result ≡ commissioned tank gauge survey.table survey.date rule }
+        ensures admitted { LedgerAdmitted P.ProductRule.meaning result }
     {
         TankComputer {
             tank,
@@ -43,6 +44,7 @@ impl<G: Gauge, T: CapacityTable, P: ProductRule> TankComputer<G, T, P> {
         ensures after { self.new ≡ after_adopt
             (meanings G.Gauge.meaning T.CapacityTable.meaning P.ProductRule.meaning)
             self.old survey.table survey.date }
+        ensures admitted { LedgerAdmitted P.ProductRule.meaning self.new }
     {
         if survey.date <= self.survey.date {
             return Err(Cause::DateNotLater.at(i64::from(survey.date)));
@@ -60,7 +62,10 @@ impl<G: Gauge, T: CapacityTable, P: ProductRule> TankComputer<G, T, P> {
         ensures after { self.new ≡ after_sample
             (meanings G.Gauge.meaning T.CapacityTable.meaning P.ProductRule.meaning)
             self.old sample }
+        ensures admitted { LedgerAdmitted P.ProductRule.meaning self.new }
     {
+        // a refusal, too, tells what the computer keeps
+        let _held = &self.gauge;
         if let Some(number) = sample.first_wrong() {
             return Err(Cause::SampleOutside.at(i64::from(number)));
         }
@@ -72,6 +77,7 @@ impl<G: Gauge, T: CapacityTable, P: ProductRule> TankComputer<G, T, P> {
     pub fn fit(&mut self, height: u32) -> Result<(), Refusal>
         ensures answer { result ≡ done_unless (fit_refused self.old height) }
         ensures after { self.new ≡ after_fit self.old height }
+        ensures admitted { LedgerAdmitted P.ProductRule.meaning self.new }
     {
         self.probe.fit(height)
     }
@@ -80,6 +86,7 @@ impl<G: Gauge, T: CapacityTable, P: ProductRule> TankComputer<G, T, P> {
     pub fn element(&mut self, number: u32, hundredths: i32) -> Result<(), Refusal>
         ensures answer { result ≡ done_unless (element_refused self.old number) }
         ensures after { self.new ≡ after_element self.old number hundredths }
+        ensures admitted { LedgerAdmitted P.ProductRule.meaning self.new }
     {
         self.probe.hear(number, hundredths)
     }
@@ -92,6 +99,7 @@ impl<G: Gauge, T: CapacityTable, P: ProductRule> TankComputer<G, T, P> {
         ensures after { self.new ≡ after_density
             (meanings G.Gauge.meaning T.CapacityTable.meaning P.ProductRule.meaning)
             self.old density }
+        ensures admitted { LedgerAdmitted P.ProductRule.meaning self.new }
     {
         let _coefficient = self.rule.coefficient(density)?;
         self.density = Some(density);
@@ -102,7 +110,10 @@ impl<G: Gauge, T: CapacityTable, P: ProductRule> TankComputer<G, T, P> {
     pub fn shell(&mut self, shell: u32) -> Result<(), Refusal>
         ensures answer { result ≡ done_unless (shell_refused shell) }
         ensures after { self.new ≡ after_shell self.old shell }
+        ensures admitted { LedgerAdmitted P.ProductRule.meaning self.new }
     {
+        // a refusal, too, tells what the computer keeps
+        let _held = &self.shell;
         if shell > LARGEST_SHELL {
             return Err(Cause::ShellLimit.at(i64::from(shell)));
         }
@@ -114,7 +125,10 @@ impl<G: Gauge, T: CapacityTable, P: ProductRule> TankComputer<G, T, P> {
     pub fn water(&mut self, water: u32) -> Result<(), Refusal>
         ensures answer { result ≡ done_unless (water_refused water) }
         ensures after { self.new ≡ after_water self.old water }
+        ensures admitted { LedgerAdmitted P.ProductRule.meaning self.new }
     {
+        // a refusal, too, tells what the computer keeps
+        let _held = &self.water;
         if water > HIGHEST_LEVEL {
             return Err(Cause::WaterLimit.at(i64::from(water)));
         }

@@ -1,6 +1,6 @@
 //! Reading a tank. It changes nothing.
 ghost use Rattle.std.specs.Prelude.{◌≡◌};
-ghost use Rattle.computer.specs.Ledgers.{meanings, Admitted};
+ghost use Rattle.computer.specs.Ledgers.{meanings, LedgerAdmitted};
 ghost use Rattle.computer.specs.Readings.{ReadAnswer};
 
 use super::super::reading::Reading;
@@ -20,7 +20,7 @@ impl<G: Gauge, T: CapacityTable, P: ProductRule> TankComputer<G, T, P> {
         ensures answer { ReadAnswer
             (meanings G.Gauge.meaning T.CapacityTable.meaning P.ProductRule.meaning)
             self.now method result }
-        ensures admitted { Admitted P.ProductRule.meaning self.now.rule self.now.density self.now.shell }
+        ensures admitted { LedgerAdmitted P.ProductRule.meaning self.now }
     {
         let water = self.water;
         let method = Method::try_from(method)?;

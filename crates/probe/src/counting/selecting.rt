@@ -5,9 +5,8 @@ ghost use Rattle.probe.specs.CountingLaws.{CountingLaws};
 ghost use Rattle.probe.specs.Probes.{most_elements, fitted_in};
 
 use super::super::element::ProbeElement;
-use super::super::probe::Probe;
+use super::super::probe::{MOST_ELEMENTS, Probe};
 use super::Counting;
-use arrayvec::ArrayVec;
 use working::element::CountingElement;
 
 impl Probe {
@@ -25,25 +24,25 @@ fn counting_among(elements: &[ProbeElement], water: u32, level: u32) -> Counting
     ensures elements { chosen result ≡ counting water level elements.now }
     ensures word { result.word ≡ counting_word water level elements.now }
 {
-    let mut chosen = ArrayVec::new();
+    let mut list = [CountingElement::default(); MOST_ELEMENTS];
+    let mut count = 0;
     let mut word: u16 = 0;
     for (i, element) in elements.iter().enumerate() {
         if let Some(element) = element.counted(water, level) {
-            chosen.push(element);
+            list[count] = element;
+            count += 1;
             word |= 1 << i;
         }
     }
-    Counting {
-        elements: chosen,
-        word,
-    }
+    Counting { list, count, word }
 }
 
 impl Counting {
     pub fn elements(&self) -> &[CountingElement]
-        ensures { result.now ≡ chosen self.now }
+        ensures value { result.now ≡ chosen self.now }
+        ensures few { length result.now ≤ most_elements }
     {
-        self.elements.as_slice()
+        &self.list[..self.count]
     }
 
     pub fn word(&self) -> u16

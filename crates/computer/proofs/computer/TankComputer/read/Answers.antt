@@ -17,12 +17,12 @@ invariant_of-liquid g c =
     let level = c.in_ok-level.level in
     let es : List CountingElement = counting held.water level (fitted_in held.probe) in
     let same = c.counting-counting.ensures.elements in
-    let first = ap (length {A = CountingElement}) (c.elements.ensures ∙ same) in
+    let first = ap (length {A = CountingElement}) (c.elements.ensures.value ∙ same) in
     let apart = eqb-false (length c.elements.result.now) 0 (sym c.if-is_empty.ensures) in
     let some : 0 < length es = omega (arith, first, apart) in
     let most : level ≤ highest_level = g.G.Gauge.meaning.laws.level_most held.gauge level (sym c.in_ok-level.ensures) in
     record {
-      right = subst (λ (list : List CountingElement). liquid_right list held.water level ≡ true) (sym (c.elements-2.ensures ∙ same))
+      right = subst (λ (list : List CountingElement). liquid_right list held.water level ≡ true) (sym (c.elements-2.ensures.value ∙ same))
           (liquid_made es held.water level some c.if-water-level.false most (counting_rises held.water level (fitted_in held.probe) (entered held.probe).standing));
     }
 
