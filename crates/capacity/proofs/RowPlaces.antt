@@ -1,10 +1,9 @@
 -- Sound rows by their places: which rise, which is the last, and on which line a height lies.
-use Rattle.std.proofs.Common.{Bor, Some, None, Option, MatchOption, slice_get, ◌≡◌, ℕ, zero, suc, ◌+◌, ◌-◌, ◌<◌, ◌≤◌, max, true, false, ltb, List, [], ◌∷◌, length, refl, ap, ◌∙◌, not-suc-le-zero, arith}
+use Rattle.std.proofs.Common.{Bor, Some, None, Option, MatchOption, slice_get, ◌≡◌, ℕ, zero, suc, ◌+◌, ◌-◌, ◌<◌, ◌≤◌, true, List, [], ◌∷◌, length, refl, ap, ◌∙◌, not-suc-le-zero, arith}
 use native.Mathlib.Numerals.{unary_clauses}
 use Rattle.std.specs.Option.{option_copied}
-use Rattle.std.specs.List.Sorted.{IsNonDecreasingBy, IsPartitionPoint}
-use Rattle.std.proofs.lemmas.Bool.{le-leb, lt-leb, ltb-true, ltb-false}
-use Rattle.std.proofs.lemmas.Bool.Decides.{nat_tests}
+use Rattle.std.specs.List.Sorted.{IsNonDecreasingBy}
+use Rattle.std.proofs.lemmas.Bool.{le-leb, lt-leb}
 use Rattle.std.proofs.lemmas.Option.{none-some, same_Some, slice_get-get_or}
 use Rattle.std.proofs.lemmas.List.Sorted.{IsNonDecreasingBy-short, IsNonDecreasingBy-from_default}
 use Rattle.capacity.specs.declared.row.Row.{Row}
@@ -67,28 +66,17 @@ on_line low (next ∷ rows) zero h inside enough first = rw (le-leb h next.heigh
 on_line low (next ∷ rows) (suc i) h inside enough first =
     rw (lt-leb h next.height (first zero (omega arith))) (on_line next rows i h (omega arith) enough (λ k l. first (suc k) (omega arith)))
 
--- the place parts the rows that are below h from those that are not
-abbrev pub Parted : List Row → ℕ → ℕ → Type 0
-Parted rows h place = IsPartitionPoint (λ (row : Row). ltb row.height h ≡ true) (λ (row : Row). ltb row.height h ≡ false) rows place
+-- no row is at h or above it: the height is not covered
+pub beyond : (rows : List Row) (h : ℕ) → (row_at rows (length rows - 1)).height < h → rows_reach rows ≤ h
+beyond [] h past = omega arith
+beyond (first ∷ above) h past =
+    let top = last_is_reach first above in
+    let e = simp unary_clauses at past in
+    omega (arith, top, e)
 
-below : (rows : List Row) (h place : ℕ) → Parted rows h place → (k : ℕ) → k < place → (row_at rows k).height < h
-below rows h place parted k l = ltb-true (row_at rows k).height h (parted.0 k nowhere (omega arith) l)
-
--- no row above the bottom one is at h or above it: the height is not covered
-pub beyond : (rows : List Row) (h place : ℕ) → sound rows ≡ true → Parted rows h place → length rows ≤ max place 1 → rows_reach rows ≤ h
-beyond [] h place s parted all = omega arith
-beyond (first ∷ []) h place s parted all = absurd (grind (arith, nat_tests, s))
-beyond (first ∷ (next ∷ rest)) h place s parted all =
-    let top = last_is_reach next rest in
-    let last = below (first ∷ (next ∷ rest)) h place parted (suc (length rest)) (omega arith) in
-    omega arith
-
-around_above : (first : Row) (above : List Row) (h place i : ℕ) → sound (first ∷ above) ≡ true → Parted (first ∷ above) h place → suc i ≡ max place 1 → i < length above → Around (first ∷ above) h (row_at (first ∷ above) i) (row_at above i)
-around_above first above h place i s parted at inside =
+around_above : (first : Row) (above : List Row) (h i : ℕ) → sound (first ∷ above) ≡ true → i < length above → h ≤ (row_at above i).height → ((k : ℕ) → 0 < k → k < suc i → (row_at (first ∷ above) k).height < h) → Around (first ∷ above) h (row_at (first ∷ above) i) (row_at above i)
+around_above first above h i s inside enough lower =
     let f = first_sound first above s in
-    let zero_first = f.at_zero in
-    let enough = ltb-false (row_at above i).height h (parted.1 (suc i) nowhere (omega arith) (omega arith)) in
-    let lower = below (first ∷ above) h place parted in
     let top = last_is_reach first above in
     let up = climb_above 1 first above (suc i) (length above) f.above (omega arith) (omega arith) in
     record {
@@ -96,22 +84,22 @@ around_above first above h place i s parted at inside =
       inside = omega arith;
       low_is = refl;
       high_is = simp unary_clauses refl;
-      first = λ k above_bottom l. lower k (omega arith);
+      first = λ k above_bottom l. lower k above_bottom (omega arith);
       covered = omega arith;
       spans = record {
         rises = rises_above 1 first above i f.above inside;
-        from_low = from_low i lower at;
+        from_low = from_low i lower;
         to_high = enough;
       };
-      on_line = on_line first above i h inside enough (λ k l. lower (suc k) (omega arith));
+      on_line = on_line first above i h inside enough (λ k l. lower (suc k) (omega arith) (omega arith));
     }
   where
-    from_low : (i : ℕ) → ((k : ℕ) → k < place → (row_at (first ∷ above) k).height < h) → suc i ≡ max place 1 → (row_at (first ∷ above) i).height ≤ h
-    from_low zero lower at = let zero_first = (first_sound first above s).at_zero in omega arith
-    from_low (suc i) lower at = let l = lower (suc i) (omega arith) in omega arith
+    from_low : (i : ℕ) → ((k : ℕ) → 0 < k → k < suc i → (row_at (first ∷ above) k).height < h) → (row_at (first ∷ above) i).height ≤ h
+    from_low zero lower = let zero_first = (first_sound first above s).at_zero in omega arith
+    from_low (suc i) lower = let l = lower (suc i) (omega arith) (omega arith) in omega arith
 
--- else it lies between the first such row and the one below that
-pub around : (rows : List Row) (h place upper : ℕ) → sound rows ≡ true → Parted rows h place → upper ≡ max place 1 → upper < length rows → Around rows h (row_at rows (upper - 1)) (row_at rows upper)
-around [] h place upper s parted at inside = absurd (not-suc-le-zero inside)
-around (first ∷ above) h place zero s parted at inside = absurd (omega arith)
-around (first ∷ above) h place (suc i) s parted at inside = simp unary_clauses (around_above first above h place i s parted at (omega arith))
+-- else it lies between the first row above the bottom one that is not below it and the one below that
+pub around : (rows : List Row) (h upper : ℕ) → sound rows ≡ true → 0 < upper → upper < length rows → h ≤ (row_at rows upper).height → ((k : ℕ) → 0 < k → k < upper → (row_at rows k).height < h) → Around rows h (row_at rows (upper - 1)) (row_at rows upper)
+around [] h upper s some inside enough lower = absurd (not-suc-le-zero inside)
+around (first ∷ above) h zero s some inside enough lower = absurd (not-suc-le-zero some)
+around (first ∷ above) h (suc i) s some inside enough lower = simp unary_clauses (around_above first above h i s (omega arith) enough lower)

@@ -30,9 +30,20 @@ impl<'a> Strapped<'a> {
         ensures { MatchOption result (rows_reach self.now.rows.now ≤ height)
             (λ p. Around self.now.rows.now height p.0 p.1) }
     {
-        let upper = self.rows.partition_point(|row| row.height < height).max(1);
-        let high = *self.rows.get(upper)?;
-        Some((self.rows[upper - 1], high))
+        let mut high = self.rows.len().checked_sub(1)?;
+        if height > self.rows[high].height {
+            return None;
+        }
+        let mut low = 1;
+        while low < high {
+            let middle = low + (high - low) / 2;
+            if self.rows[middle].height < height {
+                low = middle + 1;
+            } else {
+                high = middle;
+            }
+        }
+        Some((self.rows[low - 1], self.rows[low]))
     }
 }
 

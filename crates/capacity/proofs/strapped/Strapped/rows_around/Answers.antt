@@ -1,27 +1,29 @@
-use Rattle.std.proofs.Common.{ltb, sym, rules, arith}
-use Rattle.std.proofs.lemmas.Bool.{ltb-false}
-use Rattle.std.proofs.lemmas.List.Sorted.{IsPartitionPoint-from_clause, IsPartitionedBy-ltb}
-use Rattle.capacity.specs.declared.row.Row.{Row}
-use Rattle.capacity.proofs.RowPlaces.{nowhere, Parted, heights_rise, beyond, around}
+use Rattle.std.proofs.Common.{◌≡◌, ℕ, ◌+◌, ◌-◌, ◌/◌, ◌<◌, ◌≤◌, subst, arith}
+use Rattle.capacity.specs.RowSearch.{row_at}
+use Rattle.capacity.proofs.RowPlaces.{nowhere, heights_rise, beyond, around}
 use Rattle.capacity.proofs.strapped.Strapped.rows_around.Goals as goal
-use Rattle.capacity.proofs.strapped.Strapped.rows_around.Goals.{After-partition_point}
 
-parted : (c : After-partition_point) → Parted c.args.self.now.rows.now c.args.height c.partition_point.result
-parted c =
+pub returns-then-height-self : goal.returns-then-height-self
+returns-then-height-self c =
     let rows = c.args.self.now.rows.now in
-    let h = c.args.height in
-    IsPartitionPoint-from_clause (λ (row : Row). ltb row.height h) rows _ c.partition_point.ensures.partitioned
-    (IsPartitionedBy-ltb (λ (row : Row). row.height) rows h (heights_rise rows c.args.self.now.examined))
-    (λ a b q k. search rules)
+    beyond rows c.args.height (subst (λ (k : ℕ). (row_at rows k).height < c.args.height) c.in_ok-high.ensures.1 c.if-height-self.true)
 
-pub returns-in_err-high : goal.returns-in_err-high
-returns-in_err-high c =
-    let p = parted (goal.at.returns-in_err-high c).After-partition_point in
-    let past = ltb-false _ _ (sym c.in_err-high.ensures.lookup.0) in
-    rw (c.from_residual.ensures) (beyond _ _ _ c.args.self.now.examined p (omega arith))
+pub loop-low-preserved-then-self-middle : goal.loop-low-preserved-then-self-middle
+loop-low-preserved-then-self-middle c =
+    let rows = c.args.self.now.rows.now in
+    let middle = c.loop-low.low + (c.loop-low.high - c.loop-low.low) / 2 in (
+      omega arith,
+      omega arith,
+      omega arith,
+      c.loop-low.invariant.3,
+      λ k some below. omega (arith, heights_rise rows c.args.self.now.examined k middle nowhere (omega arith) (omega arith)),
+    )
 
 pub returns : goal.returns
 returns c =
-    let p = parted (goal.at.returns c).After-partition_point in
-    let high = c.in_ok-high.ensures.lookup.3 in
-    rw (high.1 nowhere) (around _ _ _ _ c.args.self.now.examined p c.max-upper.ensures high.0)
+    let rows = c.args.self.now.rows.now in
+    let i = c.loop-low.invariant in
+    let met : c.loop-low.high ≡ c.loop-low.low = omega (arith, i.1, c.loop-low-test.false) in
+    around rows c.args.height c.loop-low.low c.args.self.now.examined i.0 (omega (arith, i.2, met))
+    (subst (λ (k : ℕ). c.args.height ≤ (row_at rows k).height) met i.3)
+    i.4
