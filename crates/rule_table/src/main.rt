@@ -42,9 +42,15 @@ fn main(rt: HostRuntime) -> io::Result<()> {
     ] {
         write_rule(&mut out, name, &rule)?;
     }
-    for value in [0, 1, 8_371, 20_000, 20_001, u32::MAX] {
-        let name = format!(in rt.alloc(); "fixed-{value}")?;
-        write_fixed(&mut out, &name, value)?;
+    for (name, value) in [
+        ("fixed-0", 0),
+        ("fixed-1", 1),
+        ("fixed-8371", 8_371),
+        ("fixed-20000", 20_000),
+        ("fixed-20001", 20_001),
+        ("fixed-4294967295", u32::MAX),
+    ] {
+        write_fixed(&mut out, name, value)?;
     }
     out.flush()
 }
